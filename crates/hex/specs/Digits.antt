@@ -1,0 +1,29 @@
+-- Document 01, "The table text": digits 0-9 and A-F. Characters are bytes, in ASCII.
+-- Assumes nothing.
+use Prim.Native.Nat.{ℕ, _+_, _-_, _*_, _/_, _%_}
+use mathlib.Core.Bool.{Bool, true, false, _&&_}
+use mathlib.Core.List.{List, [], _∷_}
+use lib.Dec.{ltb, leb}
+
+abbrev pub pick {ℓ} : {A : Type ℓ} → Bool → A → A → A
+pick true a b = a
+pick false a b = b
+
+-- The value of a digit: 0 to 9 for 0-9, 10 to 15 for A-F; 16 for every other byte.
+unfoldable pub digitValue : ℕ → ℕ
+digitValue c = pick (leb 48 c && leb c 57) (c - 48) (pick (leb 65 c && leb c 70) (c - 55) 16)
+
+abbrev pub isDigit : ℕ → Bool
+isDigit c = ltb (digitValue c) 16
+
+-- The byte that a pair of digits stands for. (Of other characters it means nothing, and is a byte all the same.)
+abbrev pub byteOf : ℕ → ℕ → ℕ
+byteOf a b = 16 * (digitValue a % 16) + digitValue b % 16
+
+-- The digit of a value below 16, in capitals.
+unfoldable pub digitOf : ℕ → ℕ
+digitOf v = pick (ltb v 10) (v + 48) (v + 55)
+
+-- A byte's two digits, the higher first.
+abbrev pub digitsOf : ℕ → List ℕ
+digitsOf b = digitOf (b / 16) ∷ digitOf (b % 16) ∷ []

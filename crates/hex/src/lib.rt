@@ -1,0 +1,113 @@
+// Hexadecimal lines: digits, bytes and numbers in, digits out. No function here knows a frame.
+mod table;
+
+ghost use mathlib.Core.Path.{_≡_};
+ghost use Prim.Native.Nat.{_+_, _*_, _/_, _%_, _<_, _≤_};
+ghost use lib.ListN.{length, getD};
+ghost use Rattle.hex.specs.Digits.{digitValue, byteOf, digitOf};
+ghost use Rattle.hex.specs.Lines.{isLine, bytesOf};
+ghost use Rattle.hex.specs.Numbers.{numberOf, field};
+
+// A digit's value, or 16 for a byte that is no digit.
+pub fn digit(c: u8) -> u8
+    ensures { λ r. ⌜ r ≡ digitValue c ⌝ }
+{
+    table::DIGITS[c as usize]
+}
+
+// The byte that a pair of digits stands for.
+pub fn byte(a: u8, b: u8) -> u8
+    ensures { λ r. ⌜ r ≡ byteOf a b ⌝ }
+{
+    16 * (digit(a) % 16) + digit(b) % 16
+}
+
+// Whether a line is pairs of digits, at least one pair.
+pub fn is_line(line: &[u8]) -> bool
+    ensures { λ r. ⌜ r ≡ isLine (now (line .entry)) ⌝ }
+{
+    if line.len() == 0 {
+        return false;
+    }
+    if line.len() % 2 != 0 {
+        return false;
+    }
+    let mut i = 0;
+    while i < line.len() {
+        if digit(line[i]) >= 16 {
+            return false;
+        }
+        i += 1;
+    }
+    true
+}
+
+// The byte at place i of a line.
+pub fn u8_at(line: &[u8], i: usize) -> u8
+    requires { ⌜ 2 * (i + 1) ≤ length (now line) ⌝ }
+    ensures { λ r. ⌜ r ≡ getD (bytesOf (now (line .entry))) i 0 ⌝ }
+{
+    byte(line[2 * i], line[2 * i + 1])
+}
+
+// The number that all bytes of a part of a line are: at most eight.
+pub fn number(part: &[u8]) -> u64
+    requires { ⌜ length (now part) ≤ 16 ⌝ }
+    ensures { λ r. ⌜ r ≡ numberOf (bytesOf (now (part .entry))) ⌝ }
+{
+    let mut n: u64 = 0;
+    let mut i = 0;
+    while i < part.len() / 2 {
+        n = n * 256 + u8_at(part, i) as u64;
+        i += 1;
+    }
+    n
+}
+
+// The number that `width` bytes of a line are, from place i on: at most eight.
+pub fn number_at(line: &[u8], i: usize, width: usize) -> u64
+    requires { ⌜ (2 * (i + width) ≤ length (now line)) × (width ≤ 8) ⌝ }
+    ensures { λ r. ⌜ r ≡ field i width (bytesOf (now (line .entry))) ⌝ }
+{
+    let a = 2 * i;
+    let e = 2 * (i + width);
+    number(&line[a..e])
+}
+
+// The number that two bytes of a line are, from place i on.
+pub fn u16_at(line: &[u8], i: usize) -> u16
+    requires { ⌜ 2 * (i + 2) ≤ length (now line) ⌝ }
+    ensures { λ r. ⌜ r ≡ field i 2 (bytesOf (now (line .entry))) ⌝ }
+{
+    number_at(line, i, 2) as u16
+}
+
+// The number that four bytes of a line are, from place i on.
+pub fn u32_at(line: &[u8], i: usize) -> u32
+    requires { ⌜ 2 * (i + 4) ≤ length (now line) ⌝ }
+    ensures { λ r. ⌜ r ≡ field i 4 (bytesOf (now (line .entry))) ⌝ }
+{
+    number_at(line, i, 4) as u32
+}
+
+// The digit of a value below 16, in capitals.
+fn capital(v: u8) -> u8
+    requires { ⌜ v < 16 ⌝ }
+    ensures { λ r. ⌜ r ≡ digitOf v ⌝ }
+{
+    if v < 10 { v + 48 } else { v + 55 }
+}
+
+// The first of a byte's two digits, in capitals.
+pub fn high_digit(b: u8) -> u8
+    ensures { λ r. ⌜ r ≡ digitOf (b / 16) ⌝ }
+{
+    capital(b / 16)
+}
+
+// The second of a byte's two digits, in capitals.
+pub fn low_digit(b: u8) -> u8
+    ensures { λ r. ⌜ r ≡ digitOf (b % 16) ⌝ }
+{
+    capital(b % 16)
+}

@@ -1,0 +1,12 @@
+-- The laws that crates above cite.
+pub mod Decides
+pub mod Lists
+pub mod Relations
+pub mod Parents
+pub mod Entities
+pub mod Technologies
+pub mod Coefficients
+pub mod Selectors
+pub mod Groups
+pub mod Tables
+pub mod Examples

@@ -1,0 +1,58 @@
+-- Tests that agree with their meanings, put together: a meaning said otherwise, order and equality of numbers, `not`, `and`, `or`.
+-- Assumes nothing.
+use mathlib.Core.Path.{_≡_, refl}
+use mathlib.Core.Logic.{_⊎_, inl, inr}
+use mathlib.Core.Bool.{Bool, true, false, not, _&&_, _||_, true≢false, false≢true}
+use Prim.Native.Nat.{ℕ, _≤_, _<_}
+use native.Mathlib.Omega.{arith}
+use lib.Dec.{leb, ltb, eqb}
+use borrow.Author.Tests.{leb-true, leb-false, ltb-true, ltb-false, eqb-true, eqb-false}
+use Rattle.relations.specs.Decides.{Decides}
+
+pub decides-true : {P : Type 0} → P → Decides true P
+decides-true p = record { yes = λ e. p; no = λ e q. true≢false e }
+
+pub decides-false : {P : Type 0} → (P → ⊥) → Decides false P
+decides-false n = record { yes = λ e. absurd (false≢true e); no = λ e q. n q }
+
+-- The same test decides what is said otherwise.
+pub decides-as : {b : Bool} {P Q : Type 0} → (P → Q) → (Q → P) → Decides b P → Decides b Q
+decides-as f g d = record { yes = λ e. f (d .yes e); no = λ e q. d .no e (g q) }
+
+pub decides-leb : (x y : ℕ) → Decides (leb x y) (x ≤ y)
+decides-leb x y = record { yes = leb-true x y; no = λ e h. let k = leb-false x y e in omega arith }
+
+pub decides-ltb : (x y : ℕ) → Decides (ltb x y) (x < y)
+decides-ltb x y = record { yes = ltb-true x y; no = λ e h. let k = ltb-false x y e in omega arith }
+
+pub decides-eqb : (x y : ℕ) → Decides (eqb x y) (x ≡ y)
+decides-eqb x y = record { yes = eqb-true x y; no = eqb-false x y }
+
+pub decides-not : (b : Bool) {P : Type 0} → Decides b P → Decides (not b) (P → ⊥)
+decides-not true d = decides-false (λ n. n (d .yes refl))
+decides-not false d = decides-true (d .no refl)
+
+pub decides-and : (a b : Bool) {P Q : Type 0} → Decides a P → Decides b Q → Decides (a && b) (P × Q)
+decides-and true b d e = decides-as (λ q. (d .yes refl, q)) (λ h. h .1) e
+decides-and false b d e = decides-false (λ h. d .no refl (h .0))
+
+pub decides-or : (a b : Bool) {P Q : Type 0} → Decides a P → Decides b Q → Decides (a || b) (P ⊎ Q)
+decides-or true b d e = decides-true (inl (d .yes refl))
+decides-or false b d e = record {
+  yes = λ h. inr (e .yes h);
+  no = λ h s. elim s [ inl p ↦ d .no refl p | inr q ↦ e .no h q ];
+}
+
+-- The way from a meaning back to its test.
+pub decides-holds : (b : Bool) {P : Type 0} → Decides b P → P → b ≡ true
+decides-holds true d p = refl
+decides-holds false d p = absurd (d .no refl p)
+
+pub decides-fails : (b : Bool) {P : Type 0} → Decides b P → (P → ⊥) → b ≡ false
+decides-fails true d n = absurd (n (d .yes refl))
+decides-fails false d n = refl
+
+-- What is decided holds, or it doesn't.
+pub decided : (b : Bool) {P : Type 0} → Decides b P → P ⊎ (P → ⊥)
+decided true d = inl (d .yes refl)
+decided false d = inr (d .no refl)

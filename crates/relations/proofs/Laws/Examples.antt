@@ -1,0 +1,21 @@
+-- Document 01's examples of relations hold: each test computes, and agrees with its meaning.
+-- Assumes nothing.
+use mathlib.Core.Path.{refl}
+use mathlib.Core.List.{[], _∷_}
+use lib.Dec.{lit≤}
+use Rattle.policy.specs.Wellformed.{Ordered}
+use Rattle.relations.specs.Coefficients.{atLeast}
+use Rattle.relations.specs.Selectors.{overlaps}
+use Rattle.relations.specs.Examples.{Edges, to}
+use Rattle.relations.proofs.Laws.Coefficients.{atLeast-decides}
+use Rattle.relations.proofs.Laws.Selectors.{overlaps-decides}
+
+pub edges : Edges
+unfolding atLeast overlaps
+edges =
+    record {
+      meeting = overlaps-decides (to 0 8) (to 8 9) (lit≤ tt, tt) (lit≤ tt, tt) .yes refl;
+      apart = overlaps-decides (to 0 7) (to 8 9) (lit≤ tt, tt) (lit≤ tt, tt) .no refl;
+      first = atLeast-decides (3 ∷ 1 ∷ 1 ∷ []) (3 ∷ 0 ∷ 2 ∷ []) .no refl;
+      second = atLeast-decides (3 ∷ 0 ∷ 2 ∷ []) (3 ∷ 1 ∷ 1 ∷ []) .no refl;
+    }

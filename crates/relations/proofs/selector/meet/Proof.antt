@@ -1,0 +1,19 @@
+-- `meet` meets its contract: field by field it is what both ranges have in common. Assumes nothing.
+use borrow.Author.Needs.{needs}
+use Rattle.relations.specs.Selectors.{meet}
+use Rattle.relations.proofs.selector.meet.Statement.{statement}
+use Rattle.relations.proofs.selector.meet.Tie as tie
+
+returns : tie.Need-returns
+unfolding meet
+returns c =
+    rw (
+      c .range-meet5 .ensures,
+      c .before .range-meet4 .ensures,
+      c .before .before .range-meet3 .ensures,
+      c .before .before .before .range-meet2 .ensures,
+      c .before .before .before .before .range-meet .ensures,
+    )
+
+pub meet-spec : {M : Type 1} → statement M
+meet-spec = tie.close (tie.spec (λ c κs. search needs) (λ c κs. search needs) (λ c κs. search needs) (λ c κs. search needs) (λ c κs. search needs) returns)

@@ -1,0 +1,20 @@
+-- Document 01, "Relations": coefficients, for any number of them.
+-- Assumes nothing.
+use Prim.Native.Nat.{ℕ, _≤_, _<_}
+use mathlib.Core.Path.{_≡_}
+use mathlib.Core.Bool.{Bool, true, false, _&&_}
+use mathlib.Core.List.{List, [], _∷_}
+use lib.Dec.{leb}
+use lib.ListN.{length, getD}
+use Rattle.policy.specs.Model.{Coefficients}
+
+-- "C1 ⪰ C2: no coefficient of C1 is smaller."
+pub record AtLeast (c1 c2 : Coefficients) : Type 0 where
+  pub count : length c1 ≡ length c2
+  pub none-smaller : (k : ℕ) → getD c1 k 0 < getD c2 k 0 → ⊥
+
+unfoldable pub atLeast : Coefficients → Coefficients → Bool
+atLeast [] [] = true
+atLeast [] (y ∷ c2) = false
+atLeast (x ∷ c1) [] = false
+atLeast (x ∷ c1) (y ∷ c2) = leb y x && atLeast c1 c2

@@ -1,0 +1,75 @@
+-- Document 01, "Relations": selectors (boxes) and packets, for any number of fields.
+-- Assumes nothing.
+use mathlib.Core.Bool.{Bool, true, false, _&&_}
+use mathlib.Core.List.{List, [], _∷_, List·Memᴰ}
+use Rattle.policy.specs.Model.{Selector, Packet}
+use Rattle.relations.specs.Ranges.{Within, within, containsRange, overlapsRange, inhabitedRange, sameRange, meetRange}
+
+-- The packet is in the selector: each number in its field's range.
+unfoldable pub Holds : Selector → Packet → Type 0
+Holds [] [] = Unit {0}
+Holds [] (x ∷ p) = ⊥
+Holds (r ∷ s) [] = ⊥
+Holds (r ∷ s) (x ∷ p) = Within r x × Holds s p
+
+unfoldable pub holds : Selector → Packet → Bool
+holds [] [] = true
+holds [] (x ∷ p) = false
+holds (r ∷ s) [] = false
+holds (r ∷ s) (x ∷ p) = within r x && holds s p
+
+-- "S1 ⪰ S2: every packet of S2 is in S1."
+abbrev pub Contains : Selector → Selector → Type 0
+Contains s1 s2 = (p : Packet) → Holds s2 p → Holds s1 p
+
+unfoldable pub contains : Selector → Selector → Bool
+contains [] [] = true
+contains [] (q ∷ s2) = false
+contains (r ∷ s1) [] = false
+contains (r ∷ s1) (q ∷ s2) = containsRange r q && contains s1 s2
+
+-- "Overlap: some packet is in both."
+abbrev pub Overlap : Selector → Selector → Type 0
+Overlap s1 s2 = (p : Packet) × Holds s1 p × Holds s2 p
+
+unfoldable pub overlaps : Selector → Selector → Bool
+overlaps [] [] = true
+overlaps [] (q ∷ s2) = false
+overlaps (r ∷ s1) [] = false
+overlaps (r ∷ s1) (q ∷ s2) = overlapsRange r q && overlaps s1 s2
+
+-- Some packet is in the selector.
+abbrev pub Inhabited : Selector → Type 0
+Inhabited s = (p : Packet) × Holds s p
+
+unfoldable pub inhabited : Selector → Bool
+inhabited [] = true
+inhabited (r ∷ s) = inhabitedRange r && inhabited s
+
+-- The selector of the packets that are in both, of selectors with as many fields.
+unfoldable pub meet : Selector → Selector → Selector
+meet [] s2 = []
+meet (r ∷ s1) [] = []
+meet (r ∷ s1) (q ∷ s2) = meetRange r q ∷ meet s1 s2
+
+-- The selector of the packets of s that are in all of ss.
+unfoldable pub meetAll : Selector → List Selector → Selector
+meetAll s [] = s
+meetAll s (q ∷ ss) = meetAll (meet s q) ss
+
+-- One packet of s is in all of ss.
+abbrev pub MeetAll : Selector → List Selector → Type 0
+MeetAll s ss = (p : Packet) × Holds s p × ((q : Selector) → List·Memᴰ q ss → Holds q p)
+
+-- Source and destination fields exchanged: the fields go in pairs, source first, and a last one alone stays.
+unfoldable pub exchange : {A : Type 0} → List A → List A
+exchange [] = []
+exchange (x ∷ []) = x ∷ []
+exchange (x ∷ y ∷ l) = y ∷ x ∷ exchange l
+
+-- Whether two selectors are the same.
+unfoldable pub sameSelector : Selector → Selector → Bool
+sameSelector [] [] = true
+sameSelector [] (q ∷ s2) = false
+sameSelector (r ∷ s1) [] = false
+sameSelector (r ∷ s1) (q ∷ s2) = sameRange r q && sameSelector s1 s2

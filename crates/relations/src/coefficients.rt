@@ -1,0 +1,12 @@
+// Coefficients of protection.
+ghost use mathlib.Core.Path.{_≡_};
+ghost use Rattle.policy.specs.Views.{coefficientsOf};
+ghost use Rattle.relations.specs.Coefficients.{atLeast};
+use policy::row::Coefficients;
+
+// Whether no coefficient of a is smaller than b's.
+pub fn at_least(a: Coefficients, b: Coefficients) -> bool
+    ensures { λ r. ⌜ r ≡ atLeast (coefficientsOf a) (coefficientsOf b) ⌝ }
+{
+    (b.header <= a.header) & (b.payload <= a.payload) & (b.confidentiality <= a.confidentiality)
+}

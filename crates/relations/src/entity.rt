@@ -1,0 +1,55 @@
+// Entities. The parents of all are lent, by entity number.
+ghost use mathlib.Core.Path.{_≡_};
+ghost use Prim.Native.Nat.{_<_};
+ghost use lib.ListN.{getD};
+ghost use Rattle.policy.specs.Views.{parentIn};
+ghost use Rattle.relations.specs.Entities.{Parents, rootOf, atOrAbove, entityRelation};
+use crate::relation;
+use crate::relation::Relation;
+use policy::table::PerEntity;
+
+// The root of e: the entity at the top of its parents.
+pub fn root(parents: &PerEntity, e: u8) -> u8
+    requires { ⌜ Parents (now parents) × (e < 128) ⌝ }
+    ensures { λ r. ⌜ r ≡ rootOf (parentIn (now (parents .entry))) e ⌝ }
+{
+    let mut at = e;
+    loop {
+        let up = parents[at as usize];
+        if up == 255 {
+            return at;
+        }
+        at = up;
+    }
+}
+
+// Whether e ⪰ f: e is f or among f's parents upward.
+pub fn at_or_above(parents: &PerEntity, e: u8, f: u8) -> bool
+    requires { ⌜ Parents (now parents) × (f < 128) ⌝ }
+    ensures { λ r. ⌜ r ≡ atOrAbove (parentIn (now (parents .entry))) e f ⌝ }
+{
+    let mut at = f;
+    loop {
+        if at == e {
+            return true;
+        }
+        let parent = parents[at as usize];
+        if parent == 255 {
+            return false;
+        }
+        at = parent;
+    }
+}
+
+// How e stands to f.
+pub fn relation(parents: &PerEntity, e: u8, f: u8) -> Relation
+    requires { ⌜ Parents (now parents) × (e < 128) × (f < 128) ⌝ }
+    ensures { λ r. ⌜ r ≡ entityRelation (parentIn (now (parents .entry))) e f ⌝ }
+{
+    relation::by(
+        e == f,
+        at_or_above(parents, e, f),
+        at_or_above(parents, f, e),
+        root(parents, e) == root(parents, f),
+    )
+}

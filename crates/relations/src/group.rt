@@ -1,0 +1,97 @@
+// Groups of rows, the probes that a row matches, and the winner of a probe.
+ghost use mathlib.Core.Path.{_≡_};
+ghost use Prim.Native.Nat.{_<_, _≤_};
+ghost use lib.ListN.{take};
+ghost use Rattle.policy.specs.Views.{parentIn, rowOf, packetOf, rowsIn};
+ghost use Rattle.relations.specs.Lists.{same};
+ghost use Rattle.relations.specs.Entities.{Parents};
+ghost use Rattle.relations.specs.Groups.{sameGroup, matches as matchesTest, winnerIn};
+use crate::entity;
+use crate::selector;
+use policy::row::Row;
+use policy::selector::Packet;
+use policy::table;
+use policy::table::Bounds;
+use policy::table::Heads;
+use policy::table::PerEntity;
+
+// Who wins a probe: the row of this number, or nobody.
+pub enum Outcome {
+    Won(usize),
+    Nobody,
+}
+
+// Two entities and a packet.
+pub struct Probe {
+    pub source: u8,
+    pub destination: u8,
+    pub packet: Packet,
+}
+
+// Whether the first n of both arrays are the same.
+fn same_gateways(a: [u8; 8], b: [u8; 8], n: usize) -> bool
+    requires { ⌜ n ≤ 8 ⌝ }
+    ensures { λ r. ⌜ r ≡ same (take n a) (take n b) ⌝ }
+{
+    let mut k = 0;
+    while k < n {
+        if a[k] != b[k] {
+            return false;
+        }
+        k += 1;
+    }
+    true
+}
+
+// Whether a and b are of one group: equal holder, technology and gateways.
+pub fn same_group(a: Row, b: Row) -> bool
+    ensures { λ r. ⌜ r ≡ sameGroup (rowOf a) (rowOf b) ⌝ }
+{
+    if a.holder != b.holder {
+        return false;
+    }
+    if a.technology != b.technology {
+        return false;
+    }
+    let n = a.gateway_count();
+    if n != b.gateway_count() {
+        return false;
+    }
+    let x = a.gateways;
+    let y = b.gateways;
+    same_gateways(x, y, n)
+}
+
+// Whether the row matches the probe.
+pub fn matches(parents: &PerEntity, r: Row, p: Probe) -> bool
+    requires { ⌜ Parents (now parents) × (p .source < 128) × (p .destination < 128) ⌝ }
+    ensures { λ b. ⌜ b ≡ matchesTest (parentIn (now (parents .entry))) (rowOf r) (p .source) (p .destination) (packetOf (p .packet)) ⌝ }
+{
+    entity::at_or_above(parents, r.source, p.source)
+        & (entity::at_or_above(parents, r.destination, p.destination)
+            & selector::holds(r.selector, p.packet))
+}
+
+// The row that wins the probe in the group that row g names: the first of the `rows` that is of the group and matches.
+pub fn winner<'a>(
+    parents: &'a PerEntity,
+    heads: &'a Heads,
+    bounds: &'a Bounds,
+    rows: usize,
+    g: usize,
+    p: Probe,
+) -> Outcome
+    requires { ⌜ Parents (now parents) × (p .source < 128) × (p .destination < 128) × (g < rows) × (rows ≤ 64) ⌝ }
+    ensures { λ r. ⌜ r ≡ winnerIn (parentIn (now (parents .entry))) (rowsIn (now (heads .entry)) (now (bounds .entry)) rows) g (p .source) (p .destination) (packetOf (p .packet)) ⌝ }
+{
+    let named = table::row_at(heads, bounds, g);
+    let mut i = 0;
+    while i < rows {
+        let r = table::row_at(heads, bounds, i);
+        if same_group(r, named) & matches(parents, r, p) {
+            return Outcome::Won(i);
+        }
+        i += 1;
+    }
+    Outcome::Nobody
+}
