@@ -1,23 +1,18 @@
 -- The parents of entities as they are lent: what was read at an entity is its parent, and is earlier.
 -- Assumes nothing.
-use mathlib.Core.Path.{_≡_, refl, sym, _∙_}
-use mathlib.Core.List.{List, [], _∷_}
-use Prim.Native.Nat.{ℕ, zero, suc, _<_}
+use mathlib.Core.Path.{_≡_, sym, _∙_}
+use mathlib.Core.List.{List}
+use Prim.Native.Nat.{ℕ, _<_}
 use native.Mathlib.Omega.{arith}
-use lib.ListN.{length, getD}
+use lib.ListN.{getD}
 use Rattle.policy.specs.Model.{noParent}
 use Rattle.policy.specs.Views.{parentIn}
+use Rattle.policy.proofs.Laws.Lists.{getD-default}
 use Rattle.relations.specs.Entities.{Parents}
-
--- Within a list the default does not matter.
-within-list : (l : List ℕ) (e : ℕ) → e < length l → getD l e 0 ≡ parentIn l e
-within-list [] e h = absurd (omega arith)
-within-list (p ∷ l) zero h = refl
-within-list (p ∷ l) (suc e) h = within-list l e (omega arith)
 
 module _ (parents : List ℕ) (e : ℕ) (lent : Parents parents) (small : e < 128) where
   pub parent-read : getD parents e 0 ≡ parentIn parents e
-  parent-read = let f = lent .full in within-list parents e (omega arith)
+  parent-read = let f = lent .full in getD-default parents e 0 noParent (omega arith)
 
   pub parent-top : getD parents e 0 ≡ noParent → parentIn parents e ≡ noParent
   parent-top h = sym parent-read ∙ h

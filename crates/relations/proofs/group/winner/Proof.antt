@@ -9,8 +9,8 @@ use mathlib.Core.List.{List}
 use denote.Ref.{now}
 use lib.ListN.{length, getD, drop}
 use Rattle.policy.specs.Model.{Row, noRow}
-use Rattle.policy.specs.Views.{parentIn, rowIn, rowsIn, rowOf, packetOf}
-use Rattle.policy.proofs.Laws.Lists.{length-tabulate, getD-tabulate}
+use Rattle.policy.specs.Views.{parentIn, rowsIn, rowOf, packetOf}
+use Rattle.policy.proofs.Laws.Runs.{length-rows, row-of-rows}
 use Rattle.relations.specs.Groups.{winnerFrom, winnerIn}
 use Rattle.relations.proofs.Laws.Groups.{candidate, candidate-tested, winner-here, winner-next, winner-end}
 use Rattle.relations.proofs.group.winner.Statement.{statement}
@@ -31,7 +31,7 @@ starts c =
     let a = c .before .args in
     let l = rowsIn (now (a .heads)) (now (a .bounds)) (a .rows) in
     let e : getD l (a .g) noRow ≡ rowOf (c .row-at .result) =
-    getD-tabulate (rowIn (now (a .heads)) (now (a .bounds))) (a .rows) (a .g) noRow (search needs) ∙ sym (c .row-at .ensures) in
+    row-of-rows (now (a .heads)) (now (a .bounds)) (a .rows) (a .g) (search needs) ∙ sym (c .row-at .ensures) in
     (search needs, ap (λ r. winnerFrom (parentIn (now (a .parents))) r (a .p .source) (a .p .destination) (packetOf (a .p .packet)) 0 l) e)
 
 -- there are as many rows as are counted, and the test that was made is that of row i
@@ -47,7 +47,7 @@ module _ (c : tie.After-matches I μ) where
 
   in-rows : loop .loop .i < length rows
   in-rows =
-      let n = length-tabulate (rowIn (now (asked .args .heads)) (now (asked .args .bounds))) (asked .args .rows) in
+      let n = length-rows (now (asked .args .heads)) (now (asked .args .bounds)) (asked .args .rows) in
       let h = c .before .before .before .loop-test .taken in
       omega arith
 
@@ -58,7 +58,7 @@ module _ (c : tie.After-matches I μ) where
       candidate-tested (parentIn (now (asked .args .parents))) (rowOf (loop .before .row-at .result)) (asked .args .p .source)
       (asked .args .p .destination) (packetOf (asked .args .p .packet)) (rowOf (c .before .before .row-at2 .result))
       (getD rows (loop .loop .i) noRow) (c .before .same-group .result) (c .matches .result)
-      (getD-tabulate (rowIn (now (asked .args .heads)) (now (asked .args .bounds))) (asked .args .rows) (loop .loop .i) noRow
+      (row-of-rows (now (asked .args .heads)) (now (asked .args .bounds)) (asked .args .rows) (loop .loop .i)
       (c .before .before .before .loop-test .taken)
       ∙ sym (c .before .before .row-at2 .ensures))
       (c .before .same-group .ensures) (c .matches .ensures)
@@ -87,7 +87,7 @@ none : tie.Need-returns-2 I μ
 none c =
     let a = c .before .before .before .args in
     let l = c .before .loop in
-    let n = length-tabulate (rowIn (now (a .heads)) (now (a .bounds))) (a .rows) in
+    let n = length-rows (now (a .heads)) (now (a .bounds)) (a .rows) in
     let h = c .loop-test .left in
     sym
     (l .inv .1
