@@ -1,7 +1,7 @@
 -- Document 01, "The table text": what a table holds. Lists have no capacity: nothing here says how many fields, coefficients, entities or rows there are.
 -- Assumes nothing.
 use Prim.Native.Nat.{ℕ}
-use mathlib.Core.List.{List, []}
+use mathlib.Core.List.{List, [], map}
 use lib.ListN.{getD}
 
 -- The parent of a root: FF.
@@ -86,3 +86,10 @@ rowAt t i = getD (t .rows) i noRow
 -- An entity's parent; FF for a root, and for a number that is no entity's.
 abbrev pub parentOf : Table → ℕ → ℕ
 parentOf t e = entityAt t e .parent
+
+-- The parents of all entities, and their layers, by number.
+abbrev pub parentsOf : Table → List ℕ
+parentsOf t = map (λ e. e .parent) (t .entities)
+
+abbrev pub layersOf : Table → List ℕ
+layersOf t = map (λ e. e .layer) (t .entities)

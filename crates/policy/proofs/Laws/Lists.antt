@@ -1,15 +1,16 @@
 -- Laws of a list that is given by what stands at each place: its length, what stands at a place, that it goes by its places
 -- alone, one place more, and that a list is such a list of its own elements. Laws of what stands at a place: that below the
--- length it does not go by the default, of a thing that is repeated, and after a run of stores, outside the run and in it.
+-- length it does not go by the default, of a thing that is repeated, and after a run of stores, outside the run and in it. A map,
+-- and the first of a list, place by place.
 -- Assumes nothing.
 use mathlib.Core.Path.{_≡_, refl, sym, ap, subst, _∙_}
-use mathlib.Core.List.{List, [], _∷_, _++_}
+use mathlib.Core.List.{List, [], _∷_, _++_, map}
 use Prim.Native.Nat.{ℕ, zero, suc, _+_, _≤_, _<_}
 use native.Mathlib.Nat.{add-zero}
 use native.Mathlib.Numerals.{add-one}
 use native.Mathlib.Omega.{arith}
-use lib.ListN.{length, getD, set, replicate, length-set}
-use lib.Seq.{sets, getD-set-same, getD-set-other}
+use lib.ListN.{length, getD, take, set, replicate, length-set}
+use lib.Seq.{sets, length-take-le, getD-take, getD-set-same, getD-set-other}
 use Rattle.policy.specs.Lists.{tabulateFrom, tabulate}
 
 module _ {A : Type 0} where
@@ -96,3 +97,15 @@ module _ {A : Type 0} where
   getD-sets-inside l i (a ∷ vs) (suc c) d h b =
       let e : i + suc c ≡ suc i + c = omega arith in
       rw e (getD-sets-inside (set l i a) (suc i) vs c d (omega (arith, length-set l i a)) (omega arith))
+
+module _ {A B : Type 0} where
+  map-from : (g : A → B) (f : ℕ → A) (i n : ℕ) → map g (tabulateFrom f i n) ≡ tabulateFrom (λ k. g (f k)) i n
+  map-from g f i zero = refl
+  map-from g f i (suc n) = ap (λ l. g (f i) ∷ l) (map-from g f (suc i) n)
+
+  pub map-tabulate : (g : A → B) (f : ℕ → A) (n : ℕ) → map g (tabulate f n) ≡ tabulate (λ k. g (f k)) n
+  map-tabulate g f n = map-from g f 0 n
+
+pub tabulate-take : (l : List ℕ) (n : ℕ) → n ≤ length l → tabulate (λ k. getD l k 0) n ≡ take n l
+tabulate-take l n h =
+    tabulate-counted (λ k. getD l k 0) n (take n l) 0 (length-take-le n l h) (λ k b. sym (getD-take n l k 0 b))

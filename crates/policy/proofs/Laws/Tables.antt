@@ -1,5 +1,5 @@
--- Laws of the table that a struct holds. How long the struct's arrays and the table's lists are; that the struct's parents and
--- masks are the table's; of a well-formed table, that a parent is an earlier entity, and that a selector has five ranges.
+-- Laws of the table that a struct holds. How long the struct's arrays and the table's lists are; that the struct's parents,
+-- layers and masks are the table's; of a well-formed table, that a parent is an earlier entity, and that a selector has five ranges.
 -- Assumes nothing.
 use mathlib.Core.Path.{_≡_, refl, sym, ap, fun-ext, _∙_}
 use mathlib.Core.Logic.{⊎-elim}
@@ -13,12 +13,12 @@ use denote.Struct.Declared.{row}
 use denote.Struct.Laws.{val}
 use lib.ListN.{length, getD, take, length-map, List·getD-eq-default}
 use lib.Seq.{length-take-le}
-use Rattle.policy.specs.Model.{Selector, Table, noParent, noEntity, entityAt, parentOf}
+use Rattle.policy.specs.Model.{Selector, Table, noParent, noEntity, entityAt, parentOf, parentsOf, layersOf}
 use Rattle.policy.specs.Views.{coefficientsOf, parentIn, entityIn, filterIn, tableOf, Held}
 use Rattle.policy.specs.Wellformed.{Fits, widths, SelectorRule, Wellformed}
 use Rattle.policy.specs.declared.row.Row.{Row as RowStruct}
 use Rattle.policy.specs.declared.table.Table.{Table as TableStruct}
-use Rattle.policy.proofs.Laws.Lists.{getD-default, length-tabulate, getD-tabulate}
+use Rattle.policy.proofs.Laws.Lists.{getD-default, length-tabulate, getD-tabulate, map-tabulate, tabulate-take}
 use Rattle.policy.proofs.Laws.Runs.{length-rows}
 use Rattle.policy.proofs.row.Row.{the-type as row-type}
 use Rattle.policy.proofs.row.Row.Laws.{the-laws as row-laws}
@@ -75,6 +75,17 @@ entity-same t e h = getD-tabulate (entityIn (t .parents) (t .layers) (t .masks))
 
 pub mask-same : (t : TableStruct) (e : ℕ) → e < t .entities → entityAt (tableOf t) e .mask ≡ getD (t .masks) e 0
 mask-same t e h = ap (λ x. x .mask) (entity-same t e h)
+
+-- the parents and the layers of the table's entities are the first of the struct's
+pub parents-taken : (t : TableStruct) → t .entities ≤ length (t .parents) → parentsOf (tableOf t) ≡ take (t .entities) (t .parents)
+parents-taken t h =
+    map-tabulate (λ x. x .parent) (entityIn (t .parents) (t .layers) (t .masks)) (t .entities)
+    ∙ tabulate-take (t .parents) (t .entities) h
+
+pub layers-taken : (t : TableStruct) → t .entities ≤ length (t .layers) → layersOf (tableOf t) ≡ take (t .entities) (t .layers)
+layers-taken t h =
+    map-tabulate (λ x. x .layer) (entityIn (t .parents) (t .layers) (t .masks)) (t .entities)
+    ∙ tabulate-take (t .layers) (t .entities) h
 
 no-entity : (t : Table) (e : ℕ) → length (t .entities) ≤ e → entityAt t e ≡ noEntity
 no-entity t e h = List·getD-eq-default (t .entities) noEntity h

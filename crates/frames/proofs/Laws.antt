@@ -1,0 +1,4 @@
+-- The laws that crates above cite.
+pub mod Checks
+pub mod Values
+pub mod Rules

@@ -1,0 +1,24 @@
+// The frame of the floor: three least coefficients.
+ghost use mathlib.Core.Path.{_≡_};
+ghost use Prim.Native.Nat.{_*_, _≤_};
+ghost use lib.ListN.{length};
+ghost use Rattle.hex.specs.Lines.{bytesOf};
+ghost use Rattle.policy.specs.Views.{coefficientsOf};
+ghost use Rattle.frames.specs.Values.{floorLength, floorFrom};
+use crate::parts;
+use policy::row::Coefficients;
+
+// Whether the part has the floor's length.
+pub fn is_long(part: &[u8]) -> bool
+    ensures { λ r. ⌜ r ≡ floorLength (bytesOf (now (part .entry))) ⌝ }
+{
+    parts::has_bytes(part, 3)
+}
+
+// The floor that the part says.
+pub fn read(part: &[u8]) -> Coefficients
+    requires { ⌜ 2 * 3 ≤ length (now part) ⌝ }
+    ensures { λ r. ⌜ coefficientsOf r ≡ floorFrom (bytesOf (now (part .entry))) ⌝ }
+{
+    parts::coefficients(part, 0)
+}

@@ -1,0 +1,5 @@
+-- The laws that crates above cite.
+pub mod Lines
+pub mod States
+pub mod Readers
+pub mod Takings

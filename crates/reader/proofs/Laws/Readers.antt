@@ -1,0 +1,70 @@
+-- What owning a reader tells: the lengths of its table's arrays, and so that its counts are those of the table's lists. And which
+-- state a reader stands for.
+-- Assumes nothing.
+use mathlib.Core.Path.{_≡_, ap, sym, _∙_}
+use mathlib.Core.Bool.{Bool, true, false}
+use mathlib.Core.List.{List, [], _∷_, map}
+use Prim.Native.Nat.{ℕ, _≤_}
+use borrow.Author.Tests.{eq-eqb, ne-eqb}
+use native.Mathlib.Omega.{arith}
+use borrow.Author.Needs.{needs}
+use denote.Laws.{Is}
+use denote.Struct.Declared.{row}
+use denote.Struct.Laws.{val}
+use lib.Dec.{eqb}
+use lib.ListN.{length, length-map}
+use Rattle.policy.proofs.Laws.Tables.{Sized, Counted, counted}
+use Rattle.hex.specs.Digits.{pick}
+use Rattle.policy.specs.Model.{Table}
+use Rattle.policy.specs.Views.{tableOf, Stands}
+use Rattle.reader.specs.States.{State, reading, refused, run, finish, Parsed, accepted, refusedAt}
+use Rattle.reader.specs.Views.{progressOf, things, stateOf, Ready, Reads, Parses}
+use Rattle.reader.specs.declared.Reader.{Reader}
+use Rattle.reader.proofs.Laws.States.{run-refused}
+use Rattle.reader.proofs.Reader.{the-type}
+use Rattle.reader.proofs.Reader.Laws.{the-laws}
+
+length-mapped : {X Y : Type 0} (f : X → Y) (l : List X) (n : ℕ) → length (map f l) ≡ n → length l ≡ n
+length-mapped f l n e = sym (length-map l f) ∙ e
+
+pub table-sized : (r : Reader) → Is (row the-type) r (val the-type the-laws r ∷ []) → Sized (r .table)
+table-sized r good = search (length-mapped, needs)
+
+pub table-counted : (r : Reader) → Is (row the-type) r (val the-type the-laws r ∷ []) → Ready r → Counted (r .table)
+table-counted r good ready =
+    let s = table-sized r good .caps in
+    let h = ready .held .capped in
+    counted (r .table) (omega arith)
+
+-- A reader that stands for a state stands for what that is equal to.
+pub moved : {r : Reader} {s t : State} → Reads r s → s ≡ t → Reads r t
+moved h e = record { same = h .same ∙ e; ready = h .ready }
+
+-- A reader with a table and no refusal.
+pub reads : (r : Reader) (t : Table) (f n : ℕ) → r .number ≡ 0 → Stands (r .table) t → r .floored ≡ f → f ≤ 1
+    → things (record { table = t; floored = f }) ≡ n → Reads r (reading n (record { table = t; floored = f }))
+reads r t f n z s g b q =
+    record {
+      same =
+          rw (eq-eqb (r .number) 0 z)
+          ((λ i. reading (things (record { table = s .same i; floored = g i })) (record { table = s .same i; floored = g i }))
+          ∙ ap (λ m. reading m (record { table = t; floored = f })) q);
+      ready = record { held = s .held; floored = omega arith };
+    }
+
+-- A reader that is refused is that of a refused text.
+pub parsed-refused : {r : Reader} {k n : ℕ} → Reads r (refused k n) → Parses r (refusedAt k n)
+parsed-refused {r} {k} {n} h = record { same = go (eqb (r .number) 0) (h .same); ready = h .ready }
+  where
+    go : (b : Bool) → pick b (reading (things (progressOf r)) (progressOf r)) (refused (r .number) (r .line)) ≡ refused k n
+        → pick b (accepted (tableOf (r .table))) (refusedAt (r .number) (r .line)) ≡ refusedAt k n
+    go true q = let z : _≡_ {A = ℕ} 0 1 = cc in absurd (omega arith)
+    go false q = let x : r .number ≡ k = cc in let y : r .line ≡ n = cc in cc
+
+-- Whatever lines follow, a refused reader is that of the text.
+pub parses-refused : (r : Reader) (lines : List (List ℕ)) (rest : List ℕ) → (r .number ≡ 0 → ⊥) → Ready r → Parses r (finish (run (stateOf r) lines) rest)
+unfolding finish
+parses-refused r lines rest n ready = record { same = rw (ne-eqb (r .number) 0 n) (rw (run-refused (r .number) (r .line) lines)); ready = ready }
+
+pub parses-moved : {r : Reader} {x y : Parsed} → Parses r x → x ≡ y → Parses r y
+parses-moved h e = record { same = h .same ∙ e; ready = h .ready }

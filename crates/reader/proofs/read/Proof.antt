@@ -1,0 +1,106 @@
+-- `read` meets its contract: what the lines from here on make of the reader is what the text is; a refusal ends it. Assumes nothing.
+use borrow.Author.Needs.{needs}
+use native.Mathlib.Omega.{arith}
+use mathlib.Core.Path.{_≡_, sym, ap, _∙_}
+use mathlib.Core.List.{List, []}
+use Prim.Native.Nat.{ℕ, _+_, _-_, _≤_}
+use denote.Ref.{now}
+use lib.ListN.{length, take, drop}
+use Rattle.reader.specs.Lines.{linesFrom, restFrom}
+use Rattle.reader.specs.States.{State, Parsed, run, finish, parse}
+use Rattle.reader.specs.Views.{stateOf, Ready, Parses}
+use Rattle.reader.proofs.Laws.Lines.{lines-feed, rest-feed, lines-other, rest-other, lines-end, rest-end, grown-line}
+use Rattle.reader.proofs.Laws.Readers.{parses-refused, parses-moved}
+use Rattle.reader.proofs.read.Statement.{statement}
+use Rattle.reader.proofs.read.Tie as tie
+
+-- what the text is, from place i on, with the line that began
+abbrev onward : State → List ℕ → List ℕ → ℕ → Parsed
+onward s line text i = finish (run s (linesFrom line (drop i text))) (restFrom line (drop i text))
+
+abbrev begun : List ℕ → ℕ → ℕ → List ℕ
+begun text start i = take (i - start) (drop start text)
+
+abbrev I : tie.InvT-loop
+I text r₀ start₀ i₀ r start i = (start ≤ i) × (i ≤ length text) × Ready r × (onward (stateOf r) (begun text start i) text i ≡ parse text)
+
+abbrev μ : tie.MeasureT-loop
+μ text r₀ start₀ i₀ r start i = length text - i
+
+starts : tie.Need-loop-holds I μ
+unfolding parse
+starts c = (search needs, search needs, c .new .ensures .ready, rw (c .new .ensures .same))
+
+-- after a line, the reader has taken one step
+after : (c : tie.After-next I μ)
+    → onward (stateOf (c .next .result)) [] (now (c .before .before .before .before .before .before .before .before .args .text)) (c .before .before .before .before .before .loop .i + 1)
+    ≡ parse (now (c .before .before .before .before .before .before .before .before .args .text))
+unfolding run
+after c =
+    let l = c .before .before .before .before .before .loop in
+    let t = now (c .before .before .before .before .before .before .before .before .args .text) in
+    let h = c .before .before .before .before .loop-test .taken in
+    let f = c .before .before .if1 .taken in
+    rw (c .next .ensures .same)
+    (rw (lines-feed (begun t (l .start) (l .i)) t (l .i) h f, rest-feed (begun t (l .start) (l .i)) t (l .i) h f) at (l .inv .3))
+
+refused : tie.Need-returns I μ
+refused c =
+    let n = c .before .before in
+    parses-moved (parses-refused (n .next .result) _ _ (c .if2 .taken) (n .next .ensures .ready)) (after n)
+
+again : tie.Need-loop-again I μ
+again c =
+    let n = c .before .before in
+    let i = n .before .before .before .before .before .loop .i in
+    let z : i + 1 - (i + 1) ≡ 0 = omega arith in
+    (search needs, search needs, n .next .ensures .ready, rw z (after n))
+
+other : tie.Need-loop-again-2 I μ
+other c =
+    let l = c .before .before .before .loop in
+    let t = now (c .before .before .before .before .before .before .args .text) in
+    let h = c .before .before .loop-test .taken in
+    let b = begun t (l .start) (l .i) in (
+      search needs,
+      search needs,
+      l .inv .2,
+      rw (← grown-line t (l .start) (l .i) (l .inv .0) h)
+          (rw (lines-other b t (l .i) h (c .if1 .left), rest-other b t (l .i) h (c .if1 .left)) at (l .inv .3)),
+    )
+
+end : tie.Need-returns-2 I μ
+unfolding run
+end c =
+    let l = c .before .before .before .loop in
+    let t = now (c .before .before .before .before .before .before .args .text) in
+    let b = begun t (l .start) (l .i) in
+    let h : length t ≤ l .i = c .before .before .loop-test .left in
+    let e : l .i ≡ length t = omega (arith, l .inv .1) in
+    parses-moved (c .finish .ensures)
+    (rw (← e) (rw (lines-end b t (l .i) h, rest-end b t (l .i) h) at (l .inv .3)))
+
+pub read-spec : {M : Type 1} → statement M
+read-spec =
+    tie.close
+    (tie.spec
+    I
+    μ
+    (λ c κs. search needs)
+    starts
+    (λ c. search needs)
+    (λ c. search needs)
+    (λ c. search needs)
+    (λ c. search needs)
+    (λ c. search needs)
+    (λ c κs. search needs)
+    refused
+    (λ c. search needs)
+    again
+    (λ c. search needs)
+    other
+    (λ c. search needs)
+    (λ c. search needs)
+    (λ c. search needs)
+    (λ c κs. search needs)
+    end)
