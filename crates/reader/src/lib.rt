@@ -1,9 +1,12 @@
 // The reader of table texts. Its state is a struct by value; a method takes self and one line and hands back the next state.
 ghost use mathlib.Core.Path.{_≡_};
 ghost use mathlib.Core.Bool.{_&&_};
+ghost use mathlib.Core.List.{[]};
 ghost use Prim.Native.Nat.{suc, _+_, _≤_};
 ghost use lib.Dec.{eqb, ltb};
+ghost use lib.ListN.{getD};
 ghost use Rattle.hex.specs.Lines.{bytesOf};
+ghost use Rattle.reader.specs.Lines.{linesOf};
 ghost use Rattle.reader.specs.Frames.{frameOfKind};
 ghost use Rattle.reader.specs.States.{reading, refused, nothing, takeFrame, step, finish as finished, parse};
 ghost use Rattle.reader.specs.Views.{progressOf, things, stateOf, Ready, Reads, Parses};
@@ -248,4 +251,25 @@ pub fn read(text: &[u8]) -> Reader
         }
     }
     r.finish(&text[start..])
+}
+
+// The line at place n, without its line feed: a part of the text. The empty part where there are not so many lines.
+pub fn nth_line(text: &[u8], n: usize) -> &[u8]
+    ensures { λ r. ⌜ now r ≡ getD (linesOf (now (text .entry))) n [] ⌝ }
+{
+    let mut left = n;
+    let mut start = 0;
+    let mut i = 0;
+    while i < text.len() {
+        let at = i;
+        i += 1;
+        if text[at] == 10 {
+            if left == 0 {
+                return &text[start..at];
+            }
+            left -= 1;
+            start = i;
+        }
+    }
+    &text[..0]
 }

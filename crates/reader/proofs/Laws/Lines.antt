@@ -1,6 +1,6 @@
--- Laws of the lines of a text, a character at a time, as a loop goes through it.
+-- Laws of the lines of a text, a character at a time, as a loop goes through it, and of the line at a place.
 -- Assumes nothing.
-use mathlib.Core.Path.{_≡_, refl, ap, sym, _∙_}
+use mathlib.Core.Path.{_≡_, ap}
 use mathlib.Core.List.{List, [], _∷_, _++_}
 use Prim.Native.Nat.{ℕ, suc, _+_, _-_, _≤_, _<_}
 use native.Mathlib.Omega.{arith}
@@ -45,3 +45,10 @@ grown-line text start i g h =
     let k : i - start < length (drop start text) = omega (arith, length-drop start text) in
     let e : start + (i - start) ≡ i = omega arith in
     rw (j, take-suc (drop start text) (i - start) 0 k, getD-drop start text (i - start) 0, e)
+
+-- The line at place k of some lines: the first, or one of those after it.
+pub nth-first : (l : List ℕ) (ls : List (List ℕ)) (k : ℕ) → k ≡ 0 → getD (l ∷ ls) k [] ≡ l
+nth-first l ls k e = rw e
+
+pub nth-next : (l : List ℕ) (ls : List (List ℕ)) (k : ℕ) → (k ≡ 0 → ⊥) → getD (l ∷ ls) k [] ≡ getD ls (k - 1) []
+nth-next l ls k n = let e : k ≡ suc (k - 1) = omega arith in ap (λ (m : ℕ). getD (l ∷ ls) m []) e

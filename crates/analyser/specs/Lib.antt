@@ -1,0 +1,2 @@
+-- Document 01, "The six calls": what each call answers, as a function of its arguments.
+pub mod Calls

@@ -1,0 +1,51 @@
+// The analyser's calls. Each takes the text of a table.
+ghost use mathlib.Core.Path.{_≡_};
+ghost use Rattle.analyser.specs.Calls.{checkOf, lineOf};
+
+// What Check answers.
+pub enum Checked {
+    Counts {
+        entities: usize,
+        filters: usize,
+        rows: usize,
+    },
+    Refused {
+        number: u8,
+        line: u8,
+    },
+}
+
+// The counts of entities, filters and rows of the text's table, or its refusal.
+pub fn check(text: &[u8]) -> Checked
+    ensures { λ r. ⌜ r ≡ checkOf (now (text .entry)) ⌝ }
+{
+    let r = reader::read(text);
+    if r.number != 0 {
+        return Checked::Refused {
+            number: r.number,
+            line: r.line,
+        };
+    }
+    Checked::Counts {
+        entities: r.table.entities,
+        filters: r.table.filters,
+        rows: r.table.rows,
+    }
+}
+
+// The line of row k, without its line feed: a part of the text. The empty part where the text is refused or has no such row.
+pub fn line(text: &[u8], k: usize) -> &[u8]
+    ensures { λ r. ⌜ now r ≡ lineOf (now (text .entry)) k ⌝ }
+{
+    let r = reader::read(text);
+    if r.number != 0 {
+        return &text[..0];
+    }
+    if r.table.rows <= k {
+        return &text[..0];
+    }
+    reader::nth_line(
+        text,
+        r.table.entities + r.table.capped + 1 + r.table.filters + k,
+    )
+}
