@@ -3,3 +3,7 @@ pub mod Lines
 pub mod States
 pub mod Readers
 pub mod Takings
+pub mod Runs
+pub mod Wellformed
+pub mod Alike
+pub mod Rows

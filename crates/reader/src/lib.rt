@@ -214,14 +214,11 @@ impl Reader {
         }
     }
 
-    // At the text's end, with what stands after its last line feed.
+    // At the text's end, of a reader that is not refused, with what stands after the last line feed.
     fn finish(self, rest: &[u8]) -> Reader
-        requires { ⌜ Ready self ⌝ }
+        requires { ⌜ Ready self × (self .number ≡ 0) ⌝ }
         ensures { λ r. ⌜ Parses r (finished (stateOf self) (now (rest .entry))) ⌝ }
     {
-        if self.number != 0 {
-            return self;
-        }
         if rest.len() != 0 {
             return self.refuse(1);
         }

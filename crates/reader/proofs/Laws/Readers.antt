@@ -1,11 +1,11 @@
 -- What owning a reader tells: the lengths of its table's arrays, and so that its counts are those of the table's lists. And which
 -- state a reader stands for.
 -- Assumes nothing.
-use mathlib.Core.Path.{_≡_, ap, sym, _∙_}
+use mathlib.Core.Path.{_≡_, refl, ap, sym, _∙_}
 use mathlib.Core.Bool.{Bool, true, false}
 use mathlib.Core.List.{List, [], _∷_, map}
 use Prim.Native.Nat.{ℕ, _≤_}
-use borrow.Author.Tests.{eq-eqb, ne-eqb}
+use borrow.Author.Tests.{eqb-true, eq-eqb, ne-eqb}
 use native.Mathlib.Omega.{arith}
 use borrow.Author.Needs.{needs}
 use denote.Laws.{Is}
@@ -17,7 +17,7 @@ use Rattle.policy.proofs.Laws.Tables.{Sized, Counted, counted}
 use Rattle.hex.specs.Digits.{pick}
 use Rattle.policy.specs.Model.{Table}
 use Rattle.policy.specs.Views.{tableOf, Stands}
-use Rattle.reader.specs.States.{State, reading, refused, run, finish, Parsed, accepted, refusedAt}
+use Rattle.reader.specs.States.{Progress, State, reading, refused, run, finish, Parsed, accepted, refusedAt}
 use Rattle.reader.specs.Views.{progressOf, things, stateOf, Ready, Reads, Parses}
 use Rattle.reader.specs.declared.Reader.{Reader}
 use Rattle.reader.proofs.Laws.States.{run-refused}
@@ -51,6 +51,14 @@ reads r t f n z s g b q =
           ∙ ap (λ m. reading m (record { table = t; floored = f })) q);
       ready = record { held = s .held; floored = omega arith };
     }
+
+-- A reader that stands for a table so far is not refused.
+pub going : {r : Reader} {n : ℕ} {p : Progress} → Reads r (reading n p) → r .number ≡ 0
+going {r} {n} {p} h = go (eqb (r .number) 0) refl (h .same)
+  where
+    go : (b : Bool) → eqb (r .number) 0 ≡ b → pick b (reading (things (progressOf r)) (progressOf r)) (refused (r .number) (r .line)) ≡ reading n p → r .number ≡ 0
+    go true e q = eqb-true (r .number) 0 e
+    go false e q = let z : _≡_ {A = ℕ} 0 1 = cc in absurd (omega arith)
 
 -- A reader that is refused is that of a refused text.
 pub parsed-refused : {r : Reader} {k n : ℕ} → Reads r (refused k n) → Parses r (refusedAt k n)

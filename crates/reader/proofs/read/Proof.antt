@@ -10,7 +10,7 @@ use Rattle.reader.specs.Lines.{linesFrom, restFrom}
 use Rattle.reader.specs.States.{State, Parsed, run, finish, parse}
 use Rattle.reader.specs.Views.{stateOf, Ready, Parses}
 use Rattle.reader.proofs.Laws.Lines.{lines-feed, rest-feed, lines-other, rest-other, lines-end, rest-end, grown-line}
-use Rattle.reader.proofs.Laws.Readers.{parses-refused, parses-moved}
+use Rattle.reader.proofs.Laws.Readers.{going, parses-refused, parses-moved}
 use Rattle.reader.proofs.read.Statement.{statement}
 use Rattle.reader.proofs.read.Tie as tie
 
@@ -22,14 +22,14 @@ abbrev begun : List ℕ → ℕ → ℕ → List ℕ
 begun text start i = take (i - start) (drop start text)
 
 abbrev I : tie.InvT-loop
-I text r₀ start₀ i₀ r start i = (start ≤ i) × (i ≤ length text) × Ready r × (onward (stateOf r) (begun text start i) text i ≡ parse text)
+I text r₀ start₀ i₀ r start i = (start ≤ i) × (i ≤ length text) × Ready r × (r .number ≡ 0) × (onward (stateOf r) (begun text start i) text i ≡ parse text)
 
 abbrev μ : tie.MeasureT-loop
 μ text r₀ start₀ i₀ r start i = length text - i
 
 starts : tie.Need-loop-holds I μ
 unfolding parse
-starts c = (search needs, search needs, c .new .ensures .ready, rw (c .new .ensures .same))
+starts c = (search needs, search needs, c .new .ensures .ready, going (c .new .ensures), rw (c .new .ensures .same))
 
 -- after a line, the reader has taken one step
 after : (c : tie.After-next I μ)
@@ -42,7 +42,7 @@ after c =
     let h = c .before .before .before .before .loop-test .taken in
     let f = c .before .before .if1 .taken in
     rw (c .next .ensures .same)
-    (rw (lines-feed (begun t (l .start) (l .i)) t (l .i) h f, rest-feed (begun t (l .start) (l .i)) t (l .i) h f) at (l .inv .3))
+    (rw (lines-feed (begun t (l .start) (l .i)) t (l .i) h f, rest-feed (begun t (l .start) (l .i)) t (l .i) h f) at (l .inv .4))
 
 refused : tie.Need-returns I μ
 refused c =
@@ -54,7 +54,7 @@ again c =
     let n = c .before .before in
     let i = n .before .before .before .before .before .loop .i in
     let z : i + 1 - (i + 1) ≡ 0 = omega arith in
-    (search needs, search needs, n .next .ensures .ready, rw z (after n))
+    (search needs, search needs, n .next .ensures .ready, c .if2 .left, rw z (after n))
 
 other : tie.Need-loop-again-2 I μ
 other c =
@@ -65,8 +65,9 @@ other c =
       search needs,
       search needs,
       l .inv .2,
+      l .inv .3,
       rw (← grown-line t (l .start) (l .i) (l .inv .0) h)
-          (rw (lines-other b t (l .i) h (c .if1 .left), rest-other b t (l .i) h (c .if1 .left)) at (l .inv .3)),
+          (rw (lines-other b t (l .i) h (c .if1 .left), rest-other b t (l .i) h (c .if1 .left)) at (l .inv .4)),
     )
 
 end : tie.Need-returns-2 I μ
@@ -78,7 +79,7 @@ end c =
     let h : length t ≤ l .i = c .before .before .loop-test .left in
     let e : l .i ≡ length t = omega (arith, l .inv .1) in
     parses-moved (c .finish .ensures)
-    (rw (← e) (rw (lines-end b t (l .i) h, rest-end b t (l .i) h) at (l .inv .3)))
+    (rw (← e) (rw (lines-end b t (l .i) h, rest-end b t (l .i) h) at (l .inv .4)))
 
 pub read-spec : {M : Type 1} → statement M
 read-spec =

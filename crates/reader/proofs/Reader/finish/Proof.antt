@@ -6,42 +6,29 @@ use Rattle.reader.proofs.Laws.Readers.{parsed-refused}
 use Rattle.reader.proofs.Reader.finish.Statement.{statement}
 use Rattle.reader.proofs.Reader.finish.Tie as tie
 
-refused-before : tie.Need-returns
-unfolding finish
-refused-before c =
-    record { same = rw (ne-eqb _ _ (c .if1 .taken)); ready = c .before .before .before .pre }
-
-unended : tie.Need-returns-2
+unended : tie.Need-returns
 unfolding finish
 unended c =
     let i = c .before in
-    rw (eq-eqb _ _ (i .before .if1 .left)) (rw (ne-eqb _ _ (i .if2 .taken)) (parsed-refused (c .refuse .ensures)))
+    rw (eq-eqb _ _ (i .before .before .pre .1)) (rw (ne-eqb _ _ (i .if1 .taken)) (parsed-refused (c .refuse .ensures)))
 
-accepts : tie.Need-returns-3
+accepts : tie.Need-returns-2
 unfolding finish
 accepts c =
     let i = c .before .before in
-    let s = i .before .before .before .before in
+    let s = i .before .before in
     record {
-      same = rw (eq-eqb _ _ (i .before .if1 .left)) (rw (eq-eqb _ _ (i .if2 .left), eq-eqb _ _ (c .if3 .taken)));
-      ready = s .pre;
+      same = rw (eq-eqb _ _ (s .pre .1)) (rw (eq-eqb _ _ (i .if1 .left), eq-eqb _ _ (c .if2 .taken)));
+      ready = s .pre .0;
     }
 
-early : tie.Need-returns-4
+early : tie.Need-returns-3
 unfolding finish
 early c =
     let f = c .before in
     let i = f .before .before in
-    rw (eq-eqb _ _ (i .before .if1 .left))
-    (rw (eq-eqb _ _ (i .if2 .left), ne-eqb _ _ (f .if3 .left)) (parsed-refused (c .refuse2 .ensures)))
+    rw (eq-eqb _ _ (i .before .before .pre .1))
+    (rw (eq-eqb _ _ (i .if1 .left), ne-eqb _ _ (f .if2 .left)) (parsed-refused (c .refuse2 .ensures)))
 
 pub finish-spec : {M : Type 1} → statement M
-finish-spec =
-    tie.close
-    (tie.spec
-    refused-before
-    (λ c κs. search needs)
-    unended
-    accepts
-    (λ c κs. search needs)
-    early)
+finish-spec = tie.close (tie.spec (λ c κs. search needs) unended accepts (λ c κs. search needs) early)

@@ -1,0 +1,43 @@
+-- Texts whose lines have the same bytes are read alike:
+--   SameBytes: lines that are pairs of digits alike, and stand for the same bytes
+--   parse-alike: two such texts are the same table, or the same refusal
+-- Assumes nothing.
+use mathlib.Core.Path.{_≡_, refl}
+use mathlib.Core.List.{List, [], _∷_}
+use Prim.Native.Nat.{ℕ}
+use lib.Dec.{eqb}
+use lib.ListN.{length}
+use Rattle.hex.specs.Lines.{isLine, bytesOf}
+use Rattle.reader.specs.Lines.{linesOf, restOf}
+use Rattle.reader.specs.States.{State, reading, refused, nothing, step, run, finish, parse}
+
+abbrev pub SameBytes : List (List ℕ) → List (List ℕ) → Type 0
+SameBytes [] [] = Unit {0}
+SameBytes [] (m ∷ ms) = ⊥
+SameBytes (l ∷ ls) [] = ⊥
+SameBytes (l ∷ ls) (m ∷ ms) = (isLine l ≡ isLine m) × (bytesOf l ≡ bytesOf m) × SameBytes ls ms
+
+step-alike : (s : State) (l m : List ℕ) → isLine l ≡ isLine m → bytesOf l ≡ bytesOf m → step s l ≡ step s m
+unfolding step
+step-alike (reading n p) l m e b = rw (e, b)
+step-alike (refused k n) l m e b = refl
+
+run-alike : (s : State) (ls ms : List (List ℕ)) → SameBytes ls ms → run s ls ≡ run s ms
+unfolding run
+run-alike s [] [] h = refl
+run-alike s [] (m ∷ ms) h = absurd h
+run-alike s (l ∷ ls) [] h = absurd h
+run-alike s (l ∷ ls) (m ∷ ms) h = rw (step-alike s l m (h .0) (h .1)) (run-alike (step s m) ls ms (h .2))
+
+-- What stands after the last line feed counts only by whether there is any.
+finish-alike : (s : State) (x y : List ℕ) → eqb (length x) 0 ≡ eqb (length y) 0 → finish s x ≡ finish s y
+unfolding finish
+finish-alike (reading n p) x y e = rw e
+finish-alike (refused k n) x y e = refl
+
+pub parse-alike : (a b : List ℕ) → SameBytes (linesOf a) (linesOf b) → eqb (length (restOf a)) 0 ≡ eqb (length (restOf b)) 0
+    → parse a ≡ parse b
+unfolding parse
+parse-alike a b h e =
+    rw (run-alike (reading 0 nothing) (linesOf a) (linesOf b) h)
+    (finish-alike (run (reading 0 nothing) (linesOf b)) (restOf a) (restOf b) e)
