@@ -1,2 +1,3 @@
 -- Document 01, "The six calls": what each call answers, as a function of its arguments.
 pub mod Calls
+pub mod Examples

@@ -74,22 +74,6 @@ pub fn number_at(line: &[u8], i: usize, width: usize) -> u64
     number(&line[a..e])
 }
 
-// The number that two bytes of a line are, from place i on.
-pub fn u16_at(line: &[u8], i: usize) -> u16
-    requires { ⌜ 2 * (i + 2) ≤ length (now line) ⌝ }
-    ensures { λ r. ⌜ r ≡ field i 2 (bytesOf (now (line .entry))) ⌝ }
-{
-    number_at(line, i, 2) as u16
-}
-
-// The number that four bytes of a line are, from place i on.
-pub fn u32_at(line: &[u8], i: usize) -> u32
-    requires { ⌜ 2 * (i + 4) ≤ length (now line) ⌝ }
-    ensures { λ r. ⌜ r ≡ field i 4 (bytesOf (now (line .entry))) ⌝ }
-{
-    number_at(line, i, 4) as u32
-}
-
 // The digit of a value below 16, in capitals.
 fn capital(v: u8) -> u8
     requires { ⌜ v < 16 ⌝ }

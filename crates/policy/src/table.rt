@@ -1,8 +1,8 @@
 // The table. Its long parts are arrays of numbers, so that a function that is called in a loop can be lent them; what it
 // looks at comes back as a small struct.
 ghost use mathlib.Core.Path.{_≡_};
-ghost use Prim.Native.Nat.{_+_, _*_, _<_, _≤_};
-ghost use Rattle.policy.specs.Views.{value, rangeOf, selectorOf, rowOf, filterOf, coefficientsOf, entityOf, rangeIn, selectorIn, filterIn, rowIn, tableOf, Held, Stands, noTable, withEntity, withCap, withFloor, withFilter, withRow};
+ghost use Prim.Native.Nat.{_+_, _*_, _<_};
+ghost use Rattle.policy.specs.Views.{rangeOf, selectorOf, rowOf, filterOf, coefficientsOf, entityOf, rangeIn, selectorIn, filterIn, rowIn, tableOf, Held, Stands, noTable, withEntity, withCap, withFloor, withFilter, withRow};
 ghost use Rattle.policy.specs.Writes.{putRange, putFields, putHead};
 use crate::number::Number;
 use crate::row::Coefficients;

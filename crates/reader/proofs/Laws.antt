@@ -7,3 +7,4 @@ pub mod Runs
 pub mod Wellformed
 pub mod Alike
 pub mod Rows
+pub mod Texts

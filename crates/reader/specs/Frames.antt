@@ -1,7 +1,6 @@
 -- Document 01, "The table text": "The first byte is the frame's kind." From the bytes of a line to its frame.
 -- Assumes nothing.
 use Prim.Native.Nat.{ℕ}
-use mathlib.Core.Bool.{Bool}
 use mathlib.Core.List.{List, [], _∷_}
 use lib.Dec.{eqb}
 use Rattle.hex.specs.Digits.{pick}

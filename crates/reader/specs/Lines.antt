@@ -25,3 +25,8 @@ linesOf text = linesFrom [] text
 
 abbrev pub restOf : List ℕ → List ℕ
 restOf text = restFrom [] text
+
+-- The text of some lines: each ended by a line feed.
+abbrev pub textOf : List (List ℕ) → List ℕ
+textOf [] = []
+textOf (line ∷ lines) = line ++ (lineFeed ∷ textOf lines)

@@ -1,7 +1,6 @@
 // Entities. The parents of all are lent, by entity number.
 ghost use mathlib.Core.Path.{_≡_};
 ghost use Prim.Native.Nat.{_<_};
-ghost use lib.ListN.{getD};
 ghost use Rattle.policy.specs.Views.{parentIn};
 ghost use Rattle.relations.specs.Entities.{Parents, rootOf, atOrAbove, entityRelation};
 use crate::relation;

@@ -1,7 +1,6 @@
 -- `line` meets its contract: the reader's counts give the place of the row's line. Assumes nothing.
 use borrow.Author.Needs.{needs}
 use borrow.Author.Tests.{eq-eqb, ne-eqb, lt-ltb, le-ltb}
-use native.Mathlib.Omega.{arith}
 use Rattle.reader.proofs.Laws.Readers.{table-counted}
 use Rattle.analyser.specs.Calls.{lineOf}
 use Rattle.analyser.proofs.line.Statement.{statement}

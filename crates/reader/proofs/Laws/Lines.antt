@@ -7,7 +7,7 @@ use native.Mathlib.Omega.{arith}
 use native.Mathlib.Numerals.{add-one}
 use borrow.Author.Tests.{eq-eqb, ne-eqb}
 use lib.ListN.{length, getD, take, drop, length-drop, drop-of-length-le}
-use lib.Seq.{drop-cons, take-suc, getD-drop, length-take-le}
+use lib.Seq.{drop-cons, take-suc, getD-drop}
 use Rattle.reader.specs.Lines.{lineFeed, linesFrom, restFrom}
 
 module _ (line text : List ℕ) (i : ℕ) where

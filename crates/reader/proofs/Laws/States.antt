@@ -1,20 +1,17 @@
 -- Laws of the reader's states: what a frame does, by the first condition that it breaks; how the things tell the lines; a refusal
 -- stays; a run of lines in two parts.
 -- Assumes nothing.
-use mathlib.Core.Path.{_≡_, refl, ap, sym, _∙_}
+use mathlib.Core.Path.{_≡_, refl}
 use mathlib.Core.Bool.{Bool, true, false}
 use mathlib.Core.List.{List, [], _∷_, _++_}
-use Prim.Native.Nat.{ℕ, suc, _+_, _≤_, _<_}
+use Prim.Native.Nat.{ℕ, suc}
 use native.Mathlib.Omega.{arith}
-use lib.Dec.{eqb}
-use lib.ListN.{length, length-append}
-use borrow.Author.Tests.{eq-eqb, ne-eqb}
-use Rattle.hex.specs.Digits.{pick}
-use Rattle.policy.specs.Model.{Entity, Coefficients, Filter, Row, Table}
-use Rattle.policy.specs.Views.{tableOf, Held}
+use lib.ListN.{length-append}
+use borrow.Author.Tests.{ne-eqb}
+use Rattle.policy.specs.Model.{Entity, Coefficients, Filter, Row}
 use Rattle.frames.specs.Checks.{Check, or-else, refusal}
 use Rattle.reader.specs.Frames.{Frame, anEntity, aCap, aFloor, aFilter, aRow, noFrame}
-use Rattle.reader.specs.States.{Progress, State, reading, refused, checks, grown, takeFrame, step, run, finish, Parsed, accepted, refusedAt}
+use Rattle.reader.specs.States.{Progress, State, reading, refused, checks, grown, takeFrame, step, run}
 use Rattle.reader.specs.Views.{things}
 
 -- ---- a frame, by the first condition that it breaks

@@ -1,7 +1,7 @@
 -- What a reader comes to by a frame: refused for its length, its place in the sequence or its content, or with its value. For each kind,
 -- the length, the place and the content that are tested. And what it comes to by a line.
 -- Assumes nothing.
-use mathlib.Core.Path.{_≡_, refl, sym, _∙_}
+use mathlib.Core.Path.{_≡_, refl, sym}
 use mathlib.Core.Bool.{Bool, true, false}
 use mathlib.Core.List.{List, [], _∷_}
 use Prim.Native.Nat.{ℕ, suc, _*_, _≤_}

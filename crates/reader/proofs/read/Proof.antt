@@ -1,14 +1,14 @@
 -- `read` meets its contract: what the lines from here on make of the reader is what the text is; a refusal ends it. Assumes nothing.
 use borrow.Author.Needs.{needs}
 use native.Mathlib.Omega.{arith}
-use mathlib.Core.Path.{_≡_, sym, ap, _∙_}
+use mathlib.Core.Path.{_≡_}
 use mathlib.Core.List.{List, []}
 use Prim.Native.Nat.{ℕ, _+_, _-_, _≤_}
 use denote.Ref.{now}
 use lib.ListN.{length, take, drop}
 use Rattle.reader.specs.Lines.{linesFrom, restFrom}
 use Rattle.reader.specs.States.{State, Parsed, run, finish, parse}
-use Rattle.reader.specs.Views.{stateOf, Ready, Parses}
+use Rattle.reader.specs.Views.{stateOf, Ready}
 use Rattle.reader.proofs.Laws.Lines.{lines-feed, rest-feed, lines-other, rest-other, lines-end, rest-end, grown-line}
 use Rattle.reader.proofs.Laws.Readers.{going, parses-refused, parses-moved}
 use Rattle.reader.proofs.read.Statement.{statement}

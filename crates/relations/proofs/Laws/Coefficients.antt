@@ -1,11 +1,11 @@
 -- The test of ⪰ on coefficients is true exactly when no coefficient is smaller, for any number of them.
 -- Assumes nothing.
-use mathlib.Core.Path.{_≡_, refl, ap}
-use mathlib.Core.List.{List, [], _∷_}
+use mathlib.Core.Path.{refl, ap}
+use mathlib.Core.List.{[], _∷_}
 use Prim.Native.Nat.{ℕ, zero, suc, _≤_, _<_}
 use native.Mathlib.Omega.{arith}
 use lib.Dec.{leb}
-use lib.ListN.{length, getD}
+use lib.ListN.{getD}
 use Rattle.policy.specs.Model.{Coefficients}
 use Rattle.relations.specs.Decides.{Decides}
 use Rattle.relations.specs.Coefficients.{AtLeast, atLeast}

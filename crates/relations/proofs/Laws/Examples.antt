@@ -3,7 +3,6 @@
 use mathlib.Core.Path.{refl}
 use mathlib.Core.List.{[], _∷_}
 use lib.Dec.{lit≤}
-use Rattle.policy.specs.Wellformed.{Ordered}
 use Rattle.relations.specs.Coefficients.{atLeast}
 use Rattle.relations.specs.Selectors.{overlaps}
 use Rattle.relations.specs.Examples.{Edges, to}

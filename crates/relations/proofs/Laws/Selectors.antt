@@ -3,16 +3,15 @@
 -- Assumes nothing.
 use mathlib.Core.Path.{_≡_, refl, sym, ap, _∙_}
 use mathlib.Core.Logic.{_↔_, inl, inr}
-use mathlib.Core.Bool.{Bool, true, false, _&&_}
 use mathlib.Core.List.{List, [], _∷_, List·Memᴰ, List·Memᴰ·head, List·Memᴰ·tail, List·Memᴰ·not-nil, List·Memᴰ·cases-cons}
-use Prim.Native.Nat.{ℕ, zero, suc, _≤_, _<_, min, max}
+use Prim.Native.Nat.{ℕ, suc, _≤_, max}
 use native.Mathlib.Omega.{arith}
 use lib.Dec.{leb, eqb}
 use lib.ListN.{length}
 use Rattle.policy.specs.Model.{Range, Selector, Packet}
 use Rattle.policy.specs.Wellformed.{Ordered}
 use Rattle.relations.specs.Decides.{Decides}
-use Rattle.relations.specs.Ranges.{Within, within, containsRange, overlapsRange, inhabitedRange, sameRange, meetRange}
+use Rattle.relations.specs.Ranges.{Within, within, containsRange, overlapsRange, inhabitedRange, sameRange}
 use Rattle.relations.specs.Selectors.{Holds, holds, Contains, contains, Overlap, overlaps, Inhabited, inhabited, meet, meetAll, MeetAll, exchange, sameSelector}
 use Rattle.relations.proofs.Laws.Decides.{decides-true, decides-false, decides-as, decides-leb, decides-eqb, decides-and}
 

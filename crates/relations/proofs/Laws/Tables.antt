@@ -1,12 +1,10 @@
 -- What an accepted table gives the relations: its parents are a tree, as they are lent too.
 -- Assumes nothing.
-use mathlib.Core.Path.{_≡_, ap, subst⁻¹}
-use Prim.Native.Nat.{ℕ, _≤_}
+use mathlib.Core.Path.{subst⁻¹}
 use native.Mathlib.Omega.{arith}
-use lib.ListN.{length}
 use Rattle.policy.specs.Model.{Table, parentOf}
 use Rattle.policy.specs.Wellformed.{Wellformed}
-use Rattle.policy.specs.Views.{parentIn, tableOf, Held}
+use Rattle.policy.specs.Views.{tableOf, Held}
 use Rattle.policy.specs.declared.table.Table.{Table as TableStruct}
 use Rattle.policy.proofs.Laws.Tables.{Sized, parents-same, parent-earlier}
 use Rattle.relations.specs.Entities.{Tree, Parents}

@@ -18,7 +18,7 @@ accepts c =
     let i = c .before .before in
     let s = i .before .before in
     record {
-      same = rw (eq-eqb _ _ (s .pre .1)) (rw (eq-eqb _ _ (i .if1 .left), eq-eqb _ _ (c .if2 .taken)));
+      same = rw (eq-eqb _ _ (s .pre .1)) (rw (eq-eqb _ _ (i .if1 .left), eq-eqb (s .args .self .floored) 1 (c .if2 .taken)));
       ready = s .pre .0;
     }
 
@@ -28,7 +28,7 @@ early c =
     let f = c .before in
     let i = f .before .before in
     rw (eq-eqb _ _ (i .before .before .pre .1))
-    (rw (eq-eqb _ _ (i .if1 .left), ne-eqb _ _ (f .if2 .left)) (parsed-refused (c .refuse2 .ensures)))
+    (rw (eq-eqb _ _ (i .if1 .left), ne-eqb (i .before .before .args .self .floored) 1 (f .if2 .left)) (parsed-refused (c .refuse2 .ensures)))
 
 pub finish-spec : {M : Type 1} → statement M
 finish-spec = tie.close (tie.spec (λ c κs. search needs) unended accepts (λ c κs. search needs) early)

@@ -1,0 +1,20 @@
+-- Every item of document 01 that is marked ◆ holds: the answers on texts by computing them, the relations by their tests.
+-- Assumes nothing.
+use mathlib.Core.Path.{refl}
+use Rattle.hex.specs.Digits.{digitValue, digitOf}
+use Rattle.hex.specs.Lines.{isLine}
+use Rattle.relations.specs.Lists.{among}
+use Rattle.relations.specs.Selectors.{inhabited}
+use Rattle.relations.proofs.Laws.Examples.{edges}
+use Rattle.frames.specs.Checks.{refusal}
+use Rattle.frames.specs.Values.{rangeFrom}
+use Rattle.frames.specs.Rules.{entityRule, isEntity, isRoot, allRoots, allZero, rowNumbers, nullRule}
+use Rattle.reader.specs.Lines.{linesFrom, restFrom}
+use Rattle.reader.specs.Frames.{frameOfKind, frameOf}
+use Rattle.reader.specs.States.{checks, grown, takeFrame, step, run, finish, parse}
+use Rattle.analyser.specs.Calls.{checkOf}
+use Rattle.analyser.specs.Examples.{AllOf, items}
+
+pub items-hold : AllOf items
+unfolding checkOf parse finish run step takeFrame checks grown frameOf frameOfKind linesFrom restFrom refusal rangeFrom entityRule isEntity isRoot allRoots allZero rowNumbers nullRule among inhabited isLine digitValue digitOf
+items-hold = (refl, (refl, (refl, (refl, (refl, (refl, (edges .meeting, (edges .apart, (edges .first, (edges .second, tt))))))))))

@@ -1,0 +1,83 @@
+-- Document 01, "A table and its edges": the table T, and the items marked ◆ as one table of statements.
+-- Assumes nothing.
+use Prim.Native.Nat.{ℕ, _-_}
+use mathlib.Core.Path.{_≡_}
+use mathlib.Core.List.{List, [], _∷_, _++_, map}
+use lib.ListN.{length, take, replicate}
+use Rattle.hex.specs.Lines.{lineOf}
+use Rattle.relations.specs.Coefficients.{AtLeast}
+use Rattle.relations.specs.Selectors.{Overlap}
+use Rattle.relations.specs.Examples.{to}
+use Rattle.reader.specs.Lines.{textOf}
+use Rattle.analyser.specs.Calls.{checkOf}
+use Rattle.analyser.specs.declared.Checked.the-variants.{Counts, Refused}
+
+-- The text of some frames, given by their bytes.
+abbrev pub framesText : List (List ℕ) → List ℕ
+framesText frames = textOf (map lineOf frames)
+
+-- "four entities 01FF007E, 01000300, 01FF007E, 01020300; six caps 0201FFFFFF to 0206FFFFFF; 03000000"
+abbrev pub head : List (List ℕ)
+head =
+    (1 ∷ 255 ∷ 0 ∷ 126 ∷ [])
+    ∷ (1 ∷ 0 ∷ 3 ∷ 0 ∷ [])
+    ∷ (1 ∷ 255 ∷ 0 ∷ 126 ∷ [])
+    ∷ (1 ∷ 2 ∷ 3 ∷ 0 ∷ [])
+    ∷ (2 ∷ 1 ∷ 255 ∷ 255 ∷ 255 ∷ [])
+    ∷ (2 ∷ 2 ∷ 255 ∷ 255 ∷ 255 ∷ [])
+    ∷ (2 ∷ 3 ∷ 255 ∷ 255 ∷ 255 ∷ [])
+    ∷ (2 ∷ 4 ∷ 255 ∷ 255 ∷ 255 ∷ [])
+    ∷ (2 ∷ 5 ∷ 255 ∷ 255 ∷ 255 ∷ [])
+    ∷ (2 ∷ 6 ∷ 255 ∷ 255 ∷ 255 ∷ [])
+    ∷ (3 ∷ 0 ∷ 0 ∷ 0 ∷ [])
+    ∷ []
+
+-- "050001030303030300000000FFFFFFFF00000000FFFFFFFF0000FFFF", the bytes of low and high destination port, "00FF", the gateways after their number.
+abbrev pub row : List ℕ → List ℕ → List ℕ
+row ports gateways =
+    (5 ∷ 0 ∷ 1 ∷ 3 ∷ 3 ∷ 3 ∷ 3 ∷ 3 ∷ [])
+    ++ (0 ∷ 0 ∷ 0 ∷ 0 ∷ 255 ∷ 255 ∷ 255 ∷ 255 ∷ [])
+    ++ (0 ∷ 0 ∷ 0 ∷ 0 ∷ 255 ∷ 255 ∷ 255 ∷ 255 ∷ [])
+    ++ (0 ∷ 0 ∷ 255 ∷ 255 ∷ [])
+    ++ ports
+    ++ (0 ∷ 255 ∷ [])
+    ++ (length gateways ∷ gateways)
+
+-- T's rows end 00007FFF00FF00, 8000FFFF00FF00, 0000FFFF00FF00.
+abbrev pub T : List ℕ
+T =
+    framesText
+    (head
+    ++ (row (0 ∷ 0 ∷ 127 ∷ 255 ∷ []) []
+    ∷ row (128 ∷ 0 ∷ 255 ∷ 255 ∷ []) []
+    ∷ row (0 ∷ 0 ∷ 255 ∷ 255 ∷ []) []
+    ∷ []))
+
+-- The first lines of T and one row.
+abbrev pub withRow : List ℕ → List ℕ
+withRow r = framesText (head ++ (r ∷ []))
+
+-- All of the statements hold.
+abbrev pub AllOf : List (Type 0) → Type 0
+AllOf [] = Unit {0}
+AllOf (P ∷ Ps) = P × AllOf Ps
+
+abbrev pub items : List (Type 0)
+items =
+    -- "Empty text: 3, line 1."
+    (checkOf [] ≡ Refused 3 1)
+    -- "T less its last line feed: 1, line 14."
+    ∷ (checkOf (take (length T - 1) T) ≡ Refused 1 14)
+    -- "Low = high accepted, low = high + 1 gives 6."
+    ∷ (checkOf (withRow (row (0 ∷ 80 ∷ 0 ∷ 80 ∷ []) [])) ≡ Counts 4 0 1)
+    ∷ (checkOf (withRow (row (0 ∷ 81 ∷ 0 ∷ 80 ∷ []) [])) ≡ Refused 6 12)
+    -- "n of 8 accepted, 9 gives 2."
+    ∷ (checkOf (withRow (row (0 ∷ 0 ∷ 255 ∷ 255 ∷ []) (replicate 8 0))) ≡ Counts 4 0 1)
+    ∷ (checkOf (withRow (row (0 ∷ 0 ∷ 255 ∷ 255 ∷ []) (replicate 9 0))) ≡ Refused 2 12)
+    -- "Ranges 0-8 and 8-9 overlap, 0-7 and 8-9 don't."
+    ∷ Overlap (to 0 8) (to 8 9)
+    ∷ (Overlap (to 0 7) (to 8 9) → ⊥)
+    -- "(3,1,1) and (3,0,2): neither ⪰."
+    ∷ (AtLeast (3 ∷ 1 ∷ 1 ∷ []) (3 ∷ 0 ∷ 2 ∷ []) → ⊥)
+    ∷ (AtLeast (3 ∷ 0 ∷ 2 ∷ []) (3 ∷ 1 ∷ 1 ∷ []) → ⊥)
+    ∷ []
