@@ -1,0 +1,210 @@
+-- The search is right: a packet that it finds is the least of the row's that no box claims, and where it finds none there is none.
+-- In order: boxes of one size, the least high and the next candidate, what the boxes claim, the candidates of one field, the search.
+-- Assumes nothing.
+use Prim.Native.Nat.{ℕ, zero, suc, _+_, _-_, _≤_, _<_, min}
+use mathlib.Core.Path.{_≡_, refl, ap}
+use mathlib.Core.Bool.{Bool, true, false, _&&_}
+use mathlib.Core.Logic.{inl, inr}
+use mathlib.Core.List.{List, [], _∷_, List·Memᴰ, List·Memᴰ·head, List·Memᴰ·tail, List·Memᴰ·not-nil, List·Memᴰ·cases-cons}
+use native.Mathlib.Omega.{arith}
+use native.Mathlib.Decide.{decLt}
+use lib.Dec.{leb, ltb}
+use lib.ListN.{length, drop}
+use borrow.Author.Tests.{ltb-true, ltb-false}
+use Rattle.hex.specs.Digits.{pick}
+use Rattle.policy.specs.Model.{Range, Selector, Packet}
+use Rattle.policy.specs.Wellformed.{Ordered}
+use Rattle.relations.specs.Decides.{Decides}
+use Rattle.relations.specs.Ranges.{Within, within}
+use Rattle.relations.specs.Selectors.{Holds}
+use Rattle.relations.proofs.Laws.Decides.{decides-leb, decides-ltb, decides-and, decides-holds}
+use Rattle.relations.proofs.Laws.Selectors.{within-decides}
+use Rattle.search.specs.Search.{first, narrow, lesser, least, value, last, next, Answer, found, none, or-later, onward, tries, from, search}
+use Rattle.search.specs.Least.{_≤ₚ_, done, less, same, Claimed, Least, Right}
+
+-- ---- boxes of one size
+
+-- Each box has n fields.
+abbrev pub Sized : ℕ → List Selector → Type 0
+Sized n [] = Unit {0}
+Sized n (b ∷ bs) = (length b ≡ n) × Sized n bs
+
+-- Boxes that each have n fields, told one by one.
+pub sized-listed : (n : ℕ) (bs : List Selector) → ((b : Selector) → List·Memᴰ b bs → length b ≡ n) → Sized n bs
+sized-listed n [] h = tt
+sized-listed n (b ∷ bs) h = (h b (List·Memᴰ·head refl), sized-listed n bs (λ c m. h c (List·Memᴰ·tail m)))
+
+sized-narrow : (n v : ℕ) (bs : List Selector) → Sized (suc n) bs → Sized n (narrow v bs)
+sized-narrow n v [] s = tt
+sized-narrow n v ([] ∷ bs) s = absurd (omega arith)
+sized-narrow n v ((r ∷ b) ∷ bs) s =
+    let rest = sized-narrow n v bs (s .1) in
+    elim (within r v) as (λ t. Sized n (pick t (b ∷ narrow v bs) (narrow v bs))) [ true ↦ (omega arith, rest) | false ↦ rest ]
+
+-- ---- the least high, and the next candidate
+
+-- The lesser is at most m, and at most a high that is not below v; and it is below v only where m is.
+lesser-bounds : (v h m : ℕ) → (lesser v h m ≤ m) × (v ≤ h → lesser v h m ≤ h) × (min v m ≤ lesser v h m)
+lesser-bounds v h m = go (leb v h && ltb h m) (decides-and (leb v h) (ltb h m) (decides-leb v h) (decides-ltb h m))
+  where
+    go : (t : Bool) → Decides t ((v ≤ h) × (h < m)) → (pick t h m ≤ m) × (v ≤ h → pick t h m ≤ h) × (min v m ≤ pick t h m)
+    go true d = let k = d .yes refl in (omega arith, λ l. omega arith, omega arith)
+    go false d = (omega arith, λ l. elim (decLt h m) [ yes k ↦ absurd (d .no refl (l, k)) | no k ↦ omega arith ], omega arith)
+
+least-le : (v m : ℕ) (bs : List Selector) → least v m bs ≤ m
+least-le v m [] = omega arith
+least-le v m (b ∷ bs) = let k = lesser-bounds v (first b .high) m in omega (arith, least-le v (lesser v (first b .high) m) bs)
+
+-- The least is below v only where m is.
+least-from : (v m : ℕ) (bs : List Selector) → min v m ≤ least v m bs
+least-from v m [] = omega arith
+least-from v m (b ∷ bs) = let k = lesser-bounds v (first b .high) m in omega (arith, least-from v (lesser v (first b .high) m) bs)
+
+-- The least is at most each box's first high that is not below v.
+least-high : (v m : ℕ) (bs : List Selector) (b : Selector) → List·Memᴰ b bs → v ≤ first b .high → least v m bs ≤ first b .high
+least-high v m [] b i h = absurd (List·Memᴰ·not-nil i)
+least-high v m (c ∷ bs) b i h = elim (List·Memᴰ·cases-cons i) [
+  | inl e ↦ rw (← e) (let k = lesser-bounds v (first b .high) m .1 h in omega (arith, least-le v (lesser v (first b .high) m) bs))
+  | inr k ↦ least-high v (lesser v (first c .high) m) bs b k h
+]
+
+-- The next candidate is above v, and at most the row's high.
+pub next-rises : (v high : ℕ) (bs : List Selector) (w : ℕ) → next v high bs ≡ value w → (v < w) × (w ≤ high)
+next-rises v high bs w e = go (ltb (least v high bs) high) refl e
+  where
+    go : (t : Bool) → ltb (least v high bs) high ≡ t → pick t (value (least v high bs + 1)) last ≡ value w → (v < w) × (w ≤ high)
+    go true l s =
+        let h = ltb-true (least v high bs) high l in
+        let k = least-from v high bs in
+        let q : least v high bs + 1 ≡ w = cc in
+        (omega arith, omega arith)
+    go false l s = let z : _≡_ {A = ℕ} 0 1 = cc in absurd (omega arith)
+
+-- ---- what the boxes claim
+
+-- A box that holds v in its first field is narrowed to its further fields.
+narrow-in : (v : ℕ) (bs : List Selector) (r : Range) (b : Selector) → Within r v → List·Memᴰ (r ∷ b) bs → List·Memᴰ b (narrow v bs)
+narrow-in v [] r b w i = absurd (List·Memᴰ·not-nil i)
+narrow-in v (c ∷ bs) r b w i = elim (List·Memᴰ·cases-cons i) [
+  | inl e ↦ rw (← e, decides-holds (within r v) (within-decides r v) w) (List·Memᴰ·head refl)
+  | inr k ↦
+      let rest = narrow-in v bs r b w k in
+      elim (within (first c) v) as (λ t. List·Memᴰ b (pick t (drop 1 c ∷ narrow v bs) (narrow v bs))) [
+        | true ↦ List·Memᴰ·tail rest
+        | false ↦ rest
+      ]
+]
+
+-- And each narrowed box is what is left of such a box.
+narrow-of : (n v : ℕ) (bs : List Selector) (b : Selector) → Sized (suc n) bs → List·Memᴰ b (narrow v bs)
+    → (r : Range) × Within r v × List·Memᴰ (r ∷ b) bs
+narrow-of n v [] b s i = absurd (List·Memᴰ·not-nil i)
+narrow-of n v ([] ∷ bs) b s i = absurd (omega arith)
+narrow-of n v ((r ∷ c) ∷ bs) b s i = go (within r v) (within-decides r v) (narrow-of n v bs b (s .1)) i
+  where
+    go : (t : Bool) → Decides t (Within r v) → (List·Memᴰ b (narrow v bs) → (q : Range) × Within q v × List·Memᴰ (q ∷ b) bs)
+        → List·Memᴰ b (pick t (c ∷ narrow v bs) (narrow v bs)) → (q : Range) × Within q v × List·Memᴰ (q ∷ b) ((r ∷ c) ∷ bs)
+    go true d rest k = elim (List·Memᴰ·cases-cons k) [
+      | inl e ↦ (r, d .yes refl, List·Memᴰ·head (ap (λ l. r ∷ l) e))
+      | inr j ↦ let m = rest j in (m .0, m .1, List·Memᴰ·tail (m .2))
+    ]
+    go false d rest k = let m = rest k in (m .0, m .1, List·Memᴰ·tail (m .2))
+
+-- What the boxes claim with v in the first field the narrowed ones claim.
+narrow-claims : (v : ℕ) (bs : List Selector) (q : Packet) → Claimed bs (v ∷ q) → Claimed (narrow v bs) q
+unfolding Holds
+narrow-claims v bs q c = go (c .box) (c .listed) (c .holds)
+  where
+    go : (b : Selector) → List·Memᴰ b bs → Holds b (v ∷ q) → Claimed (narrow v bs) q
+    go [] i h = absurd h
+    go (r ∷ b) i h = record { box = b; listed = narrow-in v bs r b (h .0) i; holds = h .1 }
+
+-- ---- the candidates of one field
+
+module _ (r : Range) (rs : Selector) (bs : List Selector) (sized : Sized (suc (length rs)) bs) where
+  -- The key step: from a candidate up to the least high, past which the next one is, no box's claim ends.
+  claims-reach : (v x : ℕ) (q : Packet) → v ≤ x → x ≤ least v (r .high) bs → Claimed (narrow v bs) q → Claimed bs (x ∷ q)
+  unfolding Holds
+  claims-reach v x q l h c =
+      let o = narrow-of (length rs) v bs (c .box) sized (c .listed) in
+      let w = o .1 in
+      let k = least-high v (r .high) bs (o .0 ∷ c .box) (o .2) (w .high) in
+      record { box = o .0 ∷ c .box; listed = o .2; holds = (record { low = omega arith; high = omega arith }, c .holds) }
+
+  -- Each packet of the row whose first field is below v is claimed.
+  abbrev Passed : ℕ → Type 0
+  Passed v = (x : ℕ) (q : Packet) → r .low ≤ x → x < v → Holds rs q → Claimed bs (x ∷ q)
+
+  -- Where nothing is found at v, all up to the next candidate is claimed.
+  pass : (v : ℕ) → Passed v → Right rs (narrow v bs) none → Passed (least v (r .high) bs + 1)
+  pass v g c x q l h t = elim (decLt x v) [
+    | yes k ↦ g x q l k t
+    | no k ↦ claims-reach v x q (omega arith) (omega arith) (c q t)
+  ]
+
+  all-passed : (v : ℕ) → r .high < v → Passed v → Right (r ∷ rs) bs none
+  unfolding Holds
+  all-passed v h g [] t = absurd t
+  all-passed v h g (x ∷ q) t = let w = t .0 in g x q (w .low) (omega arith) (t .1)
+
+  -- What is found at v, where all before it is claimed, is the least.
+  here : (v : ℕ) (p : Packet) → Within r v → Passed v → Least rs (narrow v bs) p → Least (r ∷ rs) bs (v ∷ p)
+  unfolding Holds
+  here v p w g m = record {
+    inside = (w, m .inside);
+    unclaimed = λ c. m .unclaimed (narrow-claims v bs p c);
+    least = lowest;
+  }
+    where
+      lowest : (q : Packet) → Holds (r ∷ rs) q → (Claimed bs q → ⊥) → (v ∷ p) ≤ₚ q
+      lowest [] t f = absurd t
+      lowest (x ∷ q) t f = elim (decLt v x) [
+        | yes a ↦ less a
+        | no a ↦ elim (decLt x v) [
+          | yes b ↦ absurd (f (g x q (t .0 .low) b (t .1)))
+          | no b ↦
+              let e : v ≡ x = omega arith in
+              let k = least-from v (r .high) bs in
+              same e (m .least q (t .1) (λ c. f (claims-reach v x q (omega arith) (omega arith) c)))
+        ]
+      ]
+
+  -- n candidates are enough where n reaches past the row's high.
+  tries-right : (rest : List Selector → Answer) → ((v : ℕ) → Right rs (narrow v bs) (rest (narrow v bs)))
+      → (n v : ℕ) → Within r v → r .high < v + n → Passed v → Right (r ∷ rs) bs (tries rest n v (r .high) bs)
+  unfolding tries
+  tries-right rest ok zero v w e g = absurd (omega arith)
+  tries-right rest ok (suc n) v w e g =
+      go (rest (narrow v bs)) (ok v) (ltb (least v (r .high) bs) (r .high)) refl (λ x. tries-right rest ok n x)
+    where
+      go : (o : Answer) → Right rs (narrow v bs) o → (t : Bool) → ltb (least v (r .high) bs) (r .high) ≡ t
+          → ((x : ℕ) → Within r x → r .high < x + n → Passed x → Right (r ∷ rs) bs (tries rest n x (r .high) bs))
+          → Right (r ∷ rs) bs (or-later v o (onward (pick t (value (least v (r .high) bs + 1)) last) (λ x. tries rest n x (r .high) bs)))
+      go (found p) m t l more = here v p w g m
+      go none m true l more =
+          let h = ltb-true (least v (r .high) bs) (r .high) l in
+          let k = least-from v (r .high) bs in
+          more (least v (r .high) bs + 1) (record { low = omega arith; high = omega arith }) (omega arith) (pass v g m)
+      go none m false l more =
+          let h = ltb-false (least v (r .high) bs) (r .high) l in
+          all-passed (least v (r .high) bs + 1) (omega arith) (pass v g m)
+
+-- ---- the search
+
+-- Where no field is left, a box claims the packet.
+no-fields : (b : Selector) (bs : List Selector) → Sized zero (b ∷ bs) → Right [] (b ∷ bs) none
+no-fields [] bs s q h = record { box = []; listed = List·Memᴰ·head refl; holds = h }
+no-fields (r ∷ b) bs s q h = absurd (omega arith)
+
+-- The row is to be ordered: its low is tried with no test that it is at most the high.
+pub search-right : (s : Selector) (bs : List Selector) → Ordered s → Sized (length s) bs → Right s bs (search s bs)
+unfolding search from Holds
+search-right [] [] o n = record { inside = tt; unclaimed = λ c. List·Memᴰ·not-nil (c .listed); least = lowest }
+  where
+    lowest : (q : Packet) → Holds [] q → (Claimed [] q → ⊥) → [] ≤ₚ q
+    lowest [] h f = done
+    lowest (x ∷ q) h f = absurd h
+search-right [] (b ∷ bs) o n = no-fields b bs n
+search-right (r ∷ rs) bs o n =
+    tries-right r rs bs n (λ cs. search rs cs) (λ v. search-right rs (narrow v bs) (o .1) (sized-narrow (length rs) v bs n))
+    (suc (r .high - r .low)) (r .low) (record { low = omega arith; high = o .0 }) (omega arith) (λ x q l h t. absurd (omega arith))
