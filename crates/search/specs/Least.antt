@@ -3,7 +3,6 @@
 use Prim.Native.Nat.{ℕ, _<_}
 use mathlib.Core.Path.{_≡_}
 use mathlib.Core.List.{List, [], _∷_, List·Memᴰ}
-use lib.ListN.{length}
 use Rattle.policy.specs.Model.{Selector, Packet}
 use Rattle.relations.specs.Selectors.{Holds}
 use Rattle.search.specs.Search.{Answer, found, none}

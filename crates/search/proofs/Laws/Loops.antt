@@ -3,16 +3,15 @@
 -- Assumes nothing.
 use Prim.Native.Nat.{ℕ, zero, suc, _+_, _-_, _≤_, _<_}
 use mathlib.Core.Path.{_≡_, refl, sym, ap, _∙_}
-use mathlib.Core.Bool.{Bool, true, false, _&&_}
+use mathlib.Core.Bool.{Bool, true, false}
 use mathlib.Core.List.{List, [], _∷_, _++_, map, append-assoc, append-nil}
 use native.Mathlib.Nat.{add-zero}
 use native.Mathlib.Numerals.{add-one}
 use native.Mathlib.Omega.{arith}
 use native.Mathlib.Decide.{ℕ-discrete}
-use lib.Dec.{leb, ltb}
 use lib.ListN.{getD, drop, take, length, set, length-set, length-take, drop-of-length-le}
 use lib.Seq.{drop-cons, take-suc-set, take-set-le, drop-drop, getD-take, getD-drop, getD-set-same, getD-set-other}
-use borrow.Author.Tests.{ltb-true, lt-ltb, le-ltb}
+use borrow.Author.Tests.{lt-ltb, le-ltb}
 use Rattle.hex.specs.Digits.{pick}
 use Rattle.policy.specs.Model.{Range, Selector, noRange}
 use Rattle.policy.specs.Views.{value as valueOf, rangeIn}
@@ -71,11 +70,11 @@ map-append : {A B : Type 0} (f : A → B) (xs ys : List A) → map f (xs ++ ys) 
 map-append f [] ys = refl
 map-append f (x ∷ xs) ys = ap (λ l. f x ∷ l) (map-append f xs ys)
 
-kept-one : (bounds : List ℕ) (f i : ℕ) (l : List ℕ) (n : ℕ) → n < length l → (rest : List Selector) (b : Bool)
-    → map (boxAt bounds (f + 1)) (take (n + bit b) (set l n i)) ++ rest
-    ≡ map (boxAt bounds (f + 1)) (take n l) ++ pick b (drop 1 (boxAt bounds f i) ∷ rest) rest
-kept-one bounds f i l n h rest true = rw (add-one n, take-suc-set l n i h, map-append, append-assoc, drop-drop)
-kept-one bounds f i l n h rest false = let q : n ≤ n = omega arith in rw (add-zero, take-set-le n l n i q)
+-- One number more in a list that is filled from its start, or none.
+pub kept-one : {A : Type 0} (g : ℕ → A) (i : ℕ) (l : List ℕ) (n : ℕ) → n < length l → (rest : List A) (b : Bool)
+    → map g (take (n + bit b) (set l n i)) ++ rest ≡ map g (take n l) ++ pick b (g i ∷ rest) rest
+kept-one g i l n h rest true = rw (add-one n, take-suc-set l n i h, map-append, append-assoc)
+kept-one g i l n h rest false = let q : n ≤ n = omega arith in rw (add-zero, take-set-le n l n i q)
 
 -- What `narrowed` has done after k boxes: n of them are kept in l.
 pub record Filtered (bounds : List ℕ) (a : Boxes) (f v : ℕ) (l : List ℕ) (n k : ℕ) : Type 0 where
@@ -109,15 +108,15 @@ filtered-more bounds a f v l n k five ok w h d e =
     let hn : n < length l = omega (arith, w .long, w .few, ok .few) in
     let q : d ≤ 1 = rw e (bit-le b) in
     let rest : List Selector = narrow v (map (boxAt bounds f) (drop (k + 1) (take (a .count) (a .at)))) in
-    let t : map (boxAt bounds (f + 1)) (take n l) ++ pick b (drop 1 (boxAt bounds f i) ∷ rest) rest
+    let t : map (boxAt bounds (f + 1)) (take n l) ++ pick b (boxAt bounds (f + 1) i ∷ rest) rest
     ≡ map (boxAt bounds (f + 1)) (take n l) ++ narrow v (map (boxAt bounds f) (drop k (take (a .count) (a .at)))) =
-    rw (one-more a k ok h, ← first-field bounds f i five) in
+    rw (one-more a k ok h, ← first-field bounds f i five, drop-drop) in
     record {
       long = rw length-set (w .long);
       few = omega (arith, w .few);
       upto = omega arith;
       within = rw e (within-set l n i b hn (ok .within k h) (w .within));
-      same = rw e (kept-one bounds f i l n hn rest b ∙ t ∙ w .same);
+      same = rw e (kept-one (boxAt bounds (f + 1)) i l n hn rest b ∙ t ∙ w .same);
     }
 
 pub filtered-all : (bounds : List ℕ) (a : Boxes) (f v : ℕ) (l : List ℕ) (n k : ℕ) → Filtered bounds a f v l n k → a .count ≤ k

@@ -1,7 +1,5 @@
 -- `kept` meets its contract: each way is what the two tests say. Assumes nothing.
 use borrow.Author.Needs.{needs}
-use mathlib.Core.Path.{sym, ap, _∙_}
-use Rattle.search.specs.Views.{bit}
 use Rattle.search.proofs.kept.Statement.{statement}
 use Rattle.search.proofs.kept.Tie as tie
 

@@ -3,8 +3,7 @@ use borrow.Author.Needs.{needs}
 use native.Mathlib.Omega.{arith}
 use lib.ListN.{getD}
 use Prim.Native.Nat.{_-_, _≤_, _<_}
-use mathlib.Core.Path.{_≡_, _∙_, ap}
-use denote.Ref.{now}
+use mathlib.Core.Path.{_∙_, ap}
 use Rattle.policy.specs.Model.{Range}
 use Rattle.policy.specs.Views.{value, rangeOf}
 use Rattle.relations.specs.Ranges.{within}

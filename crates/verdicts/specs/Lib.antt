@@ -1,0 +1,3 @@
+-- Dead or witness of a row of a table.
+pub mod Verdicts
+pub mod Promises
