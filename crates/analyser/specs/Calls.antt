@@ -1,15 +1,20 @@
--- Document 01, "The six calls": the answers of Check and Line for every input.
+-- Document 01, "The six calls": the answers of Check, Line and Witness for every input.
 -- Assumes nothing.
 use Prim.Native.Nat.{ℕ, _+_}
 use mathlib.Core.List.{List, []}
 use lib.Dec.{ltb}
 use lib.ListN.{length, getD}
 use Rattle.hex.specs.Digits.{pick}
-use Rattle.policy.specs.Model.{Table}
+use Rattle.policy.specs.Model.{Packet, Table}
+use Rattle.policy.specs.Views.{packetOf}
 use Rattle.reader.specs.Lines.{linesOf}
 use Rattle.reader.specs.States.{Parsed, accepted, refusedAt, parse}
+use Rattle.search.specs.Search.{Answer, found, none}
+use Rattle.verdicts.specs.Verdicts.{verdictOn}
 use Rattle.analyser.specs.declared.Checked.{Checked}
 use Rattle.analyser.specs.declared.Checked.the-variants.{Counts, Refused}
+use Rattle.analyser.specs.declared.Witness.{Witness}
+use Rattle.analyser.specs.declared.Witness.the-variants.{Dead, Packet as Found, Refused as Refusal}
 
 -- "Check: counts of entities, filters and rows", or the refusal.
 abbrev pub checkedOf : Parsed → Checked
@@ -30,3 +35,27 @@ lineIn text k (refusedAt number line) = []
 
 unfoldable pub lineOf : List ℕ → ℕ → List ℕ
 lineOf text k = lineIn text k (parse text)
+
+-- What Witness answers: dead, a packet, or a refusal by number and line.
+pub data WitnessAnswer : Type 0 where
+  dead : WitnessAnswer
+  packet : Packet → WitnessAnswer
+  refusal : ℕ → ℕ → WitnessAnswer
+
+-- The cases of the code's enum.
+abbrev pub answerOf : Witness → WitnessAnswer
+answerOf Dead = dead
+answerOf (Found p) = packet (packetOf p)
+answerOf (Refusal number line) = refusal number line
+
+abbrev pub verdictAnswer : Answer → WitnessAnswer
+verdictAnswer none = dead
+verdictAnswer (found p) = packet p
+
+-- "Witness, of a row: either dead, or the least packet for which the row wins the probe with its own s and d"; 9 where there is no such row.
+abbrev pub witnessIn : ℕ → Parsed → WitnessAnswer
+witnessIn k (accepted t) = pick (ltb k (length (t .rows))) (verdictAnswer (verdictOn t k)) (refusal 9 0)
+witnessIn k (refusedAt number line) = refusal number line
+
+unfoldable pub witnessOf : List ℕ → ℕ → WitnessAnswer
+witnessOf text k = witnessIn k (parse text)

@@ -1,6 +1,8 @@
 // The analyser's calls. Each takes the text of a table.
 ghost use mathlib.Core.Path.{_≡_};
-ghost use Rattle.analyser.specs.Calls.{checkOf, lineOf};
+ghost use Rattle.analyser.specs.Calls.{checkOf, lineOf, answerOf, witnessOf};
+use policy::selector::Packet;
+use verdicts::Verdict;
 
 // What Check answers.
 pub enum Checked {
@@ -13,6 +15,13 @@ pub enum Checked {
         number: u8,
         line: u8,
     },
+}
+
+// What Witness answers.
+pub enum Witness {
+    Dead,
+    Packet(Packet),
+    Refused { number: u8, line: u8 },
 }
 
 // The counts of entities, filters and rows of the text's table, or its refusal.
@@ -48,4 +57,24 @@ pub fn line(text: &[u8], k: usize) -> &[u8]
         text,
         r.table.entities + r.table.capped + 1 + r.table.filters + k,
     )
+}
+
+// Whether row k is dead, or else the least packet for which it wins the probe with its own source and destination.
+pub fn witness_of(text: &[u8], k: usize) -> Witness
+    ensures { λ r. ⌜ answerOf r ≡ witnessOf (now (text .entry)) k ⌝ }
+{
+    let r = reader::read(text);
+    if r.number != 0 {
+        return Witness::Refused {
+            number: r.number,
+            line: r.line,
+        };
+    }
+    if r.table.rows <= k {
+        return Witness::Refused { number: 9, line: 0 };
+    }
+    match verdicts::judge(&r.table.parents, &r.table.heads, &r.table.bounds, k) {
+        Verdict::Packet(p) => Witness::Packet(p),
+        Verdict::Dead => Witness::Dead,
+    }
 }

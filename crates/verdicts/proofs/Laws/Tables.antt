@@ -1,0 +1,34 @@
+-- The verdict from the runs that a table lends is the verdict on the table's row.
+-- Assumes nothing.
+use mathlib.Core.Path.{_≡_, sym, ap, _∙_}
+use mathlib.Core.List.{List}
+use Prim.Native.Nat.{ℕ, _≤_, _<_}
+use native.Mathlib.Omega.{arith}
+use lib.ListN.{take}
+use lib.Seq.{length-take-le, getD-take}
+use Rattle.policy.specs.Model.{Row, noRow, rowAt, parentOf}
+use Rattle.policy.specs.Views.{parentIn, rowIn, rowsIn, tableOf, Held}
+use Rattle.policy.specs.declared.table.Table.{Table as TableStruct}
+use Rattle.policy.proofs.Laws.Lists.{tabulate-counted}
+use Rattle.policy.proofs.Laws.Runs.{length-rows, row-of-rows}
+use Rattle.policy.proofs.Laws.Tables.{Sized, parents-same}
+use Rattle.verdicts.specs.Verdicts.{verdictAfter, verdictOn}
+
+-- The first i rows of more.
+rows-before : (heads bounds : List ℕ) (i n : ℕ) → i ≤ n → rowsIn heads bounds i ≡ take i (rowsIn heads bounds n)
+rows-before heads bounds i n h =
+    let l = length-rows heads bounds n in
+    tabulate-counted (rowIn heads bounds) i (take i (rowsIn heads bounds n)) noRow
+    (length-take-le i (rowsIn heads bounds n) (omega arith))
+    (λ k b. sym (getD-take i (rowsIn heads bounds n) k noRow b ∙ row-of-rows heads bounds n k (omega arith)))
+
+pub lent-verdict : (t : TableStruct) → Sized t → Held t → (i : ℕ) → i < t .rows
+    → verdictAfter (parentIn (t .parents)) (rowsIn (t .heads) (t .bounds) i) (rowIn (t .heads) (t .bounds) i) ≡ verdictOn (tableOf t) i
+lent-verdict t s held i h =
+    let n = held .entities in
+    let m = s .parents in
+    ap (λ (up : ℕ → ℕ). verdictAfter up (rowsIn (t .heads) (t .bounds) i) (rowIn (t .heads) (t .bounds) i)) (parents-same t held (omega arith))
+    ∙ ap (λ (before : List Row). verdictAfter (parentOf (tableOf t)) before (rowIn (t .heads) (t .bounds) i))
+    (rows-before (t .heads) (t .bounds) i (t .rows) (omega arith))
+    ∙ ap (λ (r : Row). verdictAfter (parentOf (tableOf t)) (take i (tableOf t .rows)) r)
+    (sym (row-of-rows (t .heads) (t .bounds) (t .rows) i h))
