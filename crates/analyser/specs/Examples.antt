@@ -9,7 +9,7 @@ use Rattle.relations.specs.Coefficients.{AtLeast}
 use Rattle.relations.specs.Selectors.{Overlap}
 use Rattle.relations.specs.Examples.{to}
 use Rattle.reader.specs.Lines.{textOf}
-use Rattle.analyser.specs.Calls.{checkOf}
+use Rattle.analyser.specs.Calls.{checkOf, packet, dead, witnessOf}
 use Rattle.analyser.specs.declared.Checked.the-variants.{Counts, Refused}
 
 -- The text of some frames, given by their bytes.
@@ -64,8 +64,12 @@ AllOf (P ∷ Ps) = P × AllOf Ps
 
 abbrev pub items : List (Type 0)
 items =
+    -- "Witness in T: row 0 all fields 0; row 1 destination port 32,768, others 0; row 2 dead."
+    (witnessOf T 0 ≡ packet (0 ∷ 0 ∷ 0 ∷ 0 ∷ 0 ∷ []))
+    ∷ (witnessOf T 1 ≡ packet (0 ∷ 0 ∷ 0 ∷ 32768 ∷ 0 ∷ []))
+    ∷ (witnessOf T 2 ≡ dead)
     -- "Empty text: 3, line 1."
-    (checkOf [] ≡ Refused 3 1)
+    ∷ (checkOf [] ≡ Refused 3 1)
     -- "T less its last line feed: 1, line 14."
     ∷ (checkOf (take (length T - 1) T) ≡ Refused 1 14)
     -- "Low = high accepted, low = high + 1 gives 6."

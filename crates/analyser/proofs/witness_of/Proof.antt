@@ -8,7 +8,7 @@ use Prim.Native.Nat.{ℕ, _<_}
 use denote.Ref.{now}
 use lib.ListN.{length}
 use Rattle.policy.specs.Model.{Row, rowAt}
-use Rattle.policy.specs.Views.{tableOf, rowIn, packetOf}
+use Rattle.policy.specs.Views.{tableOf, rowIn}
 use Rattle.policy.specs.Wellformed.{Wellformed}
 use Rattle.policy.proofs.Laws.Runs.{row-of-rows}
 use Rattle.relations.specs.Entities.{Parents}
@@ -16,7 +16,6 @@ use Rattle.relations.proofs.Laws.Tables.{lent-parents}
 use Rattle.reader.specs.States.{accepted, parse}
 use Rattle.reader.proofs.Laws.Readers.{table-sized, table-counted}
 use Rattle.reader.proofs.Laws.Wellformed.{accepted-wellformed}
-use Rattle.search.specs.Search.{Answer, found, none}
 use Rattle.verdicts.specs.Verdicts.{verdictOn, answerOf as judged}
 use Rattle.verdicts.proofs.Laws.Tables.{lent-verdict}
 use Rattle.analyser.specs.Calls.{witnessOf}

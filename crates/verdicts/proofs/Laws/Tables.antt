@@ -6,7 +6,7 @@ use Prim.Native.Nat.{ℕ, _≤_, _<_}
 use native.Mathlib.Omega.{arith}
 use lib.ListN.{take}
 use lib.Seq.{length-take-le, getD-take}
-use Rattle.policy.specs.Model.{Row, noRow, rowAt, parentOf}
+use Rattle.policy.specs.Model.{Row, noRow, parentOf}
 use Rattle.policy.specs.Views.{parentIn, rowIn, rowsIn, tableOf, Held}
 use Rattle.policy.specs.declared.table.Table.{Table as TableStruct}
 use Rattle.policy.proofs.Laws.Lists.{tabulate-counted}
