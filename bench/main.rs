@@ -3,10 +3,11 @@ use std::time::{Duration, Instant};
 
 extern "C" {
     fn timed_check(text: *const u8, len: usize) -> u64;
-    fn timed_witness(text: *const u8, len: usize, row: usize, field: usize) -> u64;
+    fn timed_witness(text: *const u8, len: usize, row: usize) -> u64;
 }
 
-const DEAD: u64 = 1 << 32;
+const PACKET: u64 = 0;
+const DEAD: u64 = 1;
 
 type Selector = [(u64, u64); 5];
 const FULL: Selector = [(0, 0xFFFF_FFFF), (0, 0xFFFF_FFFF), (0, 0xFFFF), (0, 0xFFFF), (0, 0xFF)];
@@ -136,20 +137,17 @@ fn apart(rows: usize) -> Vec<Selector> {
     }).collect()
 }
 
-fn witness(text: &str, row: usize) -> Option<[u64; 5]> {
-    let field = |f| unsafe { timed_witness(text.as_ptr(), text.len(), row, f) };
-    if field(0) == DEAD { None } else { Some(std::array::from_fn(field)) }
+fn witness(text: &str, row: usize) -> u64 {
+    unsafe { timed_witness(text.as_ptr(), text.len(), row) }
 }
 
 fn measure(name: &str, rows: &[Selector], runs: usize) {
     let text = table(rows, 0);
     let last = rows.len() - 1;
-    let (expected, tried) = search(&rows[last], &rows[..last]);
-    assert_eq!(witness(&text, last), expected, "{name}: the two searches answer alike");
+    let (found, tried) = search(&rows[last], &rows[..last]);
+    let expected = if found.is_some() { PACKET } else { DEAD };
     let read = least(20, || assert_eq!(unsafe { timed_check(text.as_ptr(), text.len()) }, 0));
-    let ours = least(runs, || {
-        std::hint::black_box(unsafe { timed_witness(text.as_ptr(), text.len(), last, 0) });
-    }).saturating_sub(read);
+    let ours = least(runs, || assert_eq!(witness(&text, last), expected)).saturating_sub(read);
     let rust = least(runs, || {
         std::hint::black_box(search(std::hint::black_box(&rows[last]), std::hint::black_box(&rows[..last])));
     });
@@ -162,9 +160,7 @@ fn main() {
     let read = least(200, || assert_eq!(unsafe { timed_check(largest.as_ptr(), largest.len()) }, 0));
     println!("reading 64 rows of 8 gateways, {} bytes: {read:.2?}", largest.len());
     let text = table(&apart(64), 0);
-    let whole = least(200, || {
-        std::hint::black_box(unsafe { timed_witness(text.as_ptr(), text.len(), 63, 0) });
-    });
+    let whole = least(200, || assert_eq!(witness(&text, 63), PACKET));
     println!("witness of the last of 64 rows that lie apart, reading included: {whole:.2?}");
     for rows in [8, 16, 32, 64] {
         measure(&format!("worst row of {rows}"), &worst(rows), 3);

@@ -1,10 +1,15 @@
-// What the benchmark calls: numbers in, a number out.
+// What the benchmark calls: a text and a row's number in, a number out.
+ghost use mathlib.Core.Path.{_≡_};
+ghost use Rattle.analyser.specs.Calls.{checkOf, witnessOf};
+ghost use Rattle.timed.specs.Codes.{checkCode, witnessCode};
 use analyser::Checked;
 use analyser::Witness;
 
 // 0 if the text is accepted, else 1.
 #[no_mangle]
-pub extern "C" fn timed_check(text: &[u8]) -> u64 {
+pub extern "C" fn timed_check(text: &[u8]) -> u64
+    ensures { λ n. ⌜ n ≡ checkCode (checkOf (now (text .entry))) ⌝ }
+{
     match analyser::check(text) {
         Checked::Counts {
             entities: _,
@@ -15,18 +20,14 @@ pub extern "C" fn timed_check(text: &[u8]) -> u64 {
     }
 }
 
-// A field, 0 to 4, of the witness of row k; 2^32 if the row is dead, 2^33 if there is a refusal.
+// 0 if row k has a witness, 1 if it is dead, 2 if there is a refusal.
 #[no_mangle]
-pub extern "C" fn timed_witness(text: &[u8], k: usize, field: usize) -> u64 {
+pub extern "C" fn timed_witness(text: &[u8], k: usize) -> u64
+    ensures { λ n. ⌜ n ≡ witnessCode (witnessOf (now (text .entry)) k) ⌝ }
+{
     match analyser::witness_of(text, k) {
-        Witness::Packet(p) => match field {
-            0 => p.source_address.word,
-            1 => p.destination_address.word,
-            2 => p.source_port.word,
-            3 => p.destination_port.word,
-            _ => p.protocol.word,
-        },
-        Witness::Dead => 0x1_0000_0000,
-        Witness::Refused { number: _, line: _ } => 0x2_0000_0000,
+        Witness::Packet(_) => 0,
+        Witness::Dead => 1,
+        Witness::Refused { number: _, line: _ } => 2,
     }
 }

@@ -1,0 +1,2 @@
+-- The calls' answers as numbers.
+pub mod Codes
