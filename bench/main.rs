@@ -6,6 +6,9 @@ extern "C" {
     fn timed_witness(text: *const u8, len: usize, row: usize) -> u64;
 }
 
+/// What the search may take, in times of the same search in Rust.
+const MOST: f64 = 1.5;
+
 const PACKET: u64 = 0;
 const DEAD: u64 = 1;
 
@@ -153,6 +156,7 @@ fn measure(name: &str, rows: &[Selector], runs: usize) {
     });
     let ratio = ours.as_secs_f64() / rust.as_secs_f64();
     println!("{name}: {tried} values, {ours:.2?} (reading {read:.2?} apart), in Rust {rust:.2?}, ratio {ratio:.2}");
+    assert!(ratio <= MOST, "{name}: above {MOST} times the time in Rust");
 }
 
 fn main() {
