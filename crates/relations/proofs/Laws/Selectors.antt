@@ -165,24 +165,25 @@ meet-holds (r ∷ s1) (q ∷ s2) (x ∷ p) e =
           (record { low = omega arith; high = omega arith }, rest .1 (h .0 .1, h .1 .1)),
     )
 
+-- One selector more: a packet of all lies in the meeting of the first two.
+module _ (s q : Selector) (ss : List Selector) (same : length q ≡ length s) where
+  pub meetAll-more : MeetAll (meet s q) ss → MeetAll s (q ∷ ss)
+  meetAll-more h =
+      let b = meet-holds s q (h .0) same .0 (h .1) in
+      (h .0, b .0, λ x m. elim (List·Memᴰ·cases-cons m) [ inl e ↦ rw e (b .1) | inr k ↦ h .2 x k ])
+
+  pub meetAll-less : MeetAll s (q ∷ ss) → MeetAll (meet s q) ss
+  meetAll-less h =
+      (h .0, meet-holds s q (h .0) same .1 (h .1, h .2 q (List·Memᴰ·head refl)), λ x m. h .2 x (List·Memᴰ·tail m))
+
 pub meetAll-decides : (s : Selector) (ss : List Selector) → ((q : Selector) → List·Memᴰ q ss → length q ≡ length s)
     → Decides (inhabited (meetAll s ss)) (MeetAll s ss)
 unfolding meetAll
 meetAll-decides s [] n = decides-as (λ h. (h .0, h .1, λ q m. absurd (List·Memᴰ·not-nil m))) (λ h. (h .0, h .1)) (inhabited-decides s)
 meetAll-decides s (q ∷ ss) n =
-    decides-as more less (meetAll-decides (meet s q) ss (λ x m. n x (List·Memᴰ·tail m) ∙ sym (meet-length s q same)))
-  where
-    same : length q ≡ length s
-    same = n q (List·Memᴰ·head refl)
-
-    more : MeetAll (meet s q) ss → MeetAll s (q ∷ ss)
-    more h =
-        let b = meet-holds s q (h .0) same .0 (h .1) in
-        (h .0, b .0, λ x m. elim (List·Memᴰ·cases-cons m) [ inl e ↦ rw e (b .1) | inr k ↦ h .2 x k ])
-
-    less : MeetAll s (q ∷ ss) → MeetAll (meet s q) ss
-    less h =
-        (h .0, meet-holds s q (h .0) same .1 (h .1, h .2 q (List·Memᴰ·head refl)), λ x m. h .2 x (List·Memᴰ·tail m))
+    let same = n q (List·Memᴰ·head refl) in
+    decides-as (meetAll-more s q ss same) (meetAll-less s q ss same)
+    (meetAll-decides (meet s q) ss (λ x m. n x (List·Memᴰ·tail m) ∙ sym (meet-length s q same)))
 
 -- ---- exchanged, and the same
 

@@ -1,6 +1,6 @@
 -- `timed_check` meets its contract: each variant has its number. Assumes nothing.
 use borrow.Author.Needs.{needs}
-use mathlib.Core.Path.{_≡_, ap, sym, _∙_}
+use mathlib.Core.Path.{ap, sym, _∙_}
 use Rattle.timed.specs.Codes.{checkCode}
 use Rattle.timed.proofs.timed_check.Statement.{statement}
 use Rattle.timed.proofs.timed_check.Tie as tie

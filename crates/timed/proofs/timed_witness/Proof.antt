@@ -1,6 +1,6 @@
 -- `timed_witness` meets its contract: each variant has its number. Assumes nothing.
 use borrow.Author.Needs.{needs}
-use mathlib.Core.Path.{_≡_, ap, sym, _∙_}
+use mathlib.Core.Path.{ap, sym, _∙_}
 use Rattle.analyser.specs.Calls.{answerOf}
 use Rattle.analyser.specs.declared.Witness.{Witness}
 use Rattle.timed.specs.Codes.{witnessCode}

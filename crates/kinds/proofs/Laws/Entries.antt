@@ -1,0 +1,119 @@
+-- The entries of a well-formed table are exactly its anomalies.
+-- Assumes nothing.
+use Prim.Native.Nat.{ℕ, zero, suc, _+_, _≤_, _<_}
+use mathlib.Core.Path.{_≡_, refl, sym, subst}
+use mathlib.Core.Bool.{Bool, true, false}
+use mathlib.Core.Logic.{_⊎_, _↔_, inl, inr}
+use mathlib.Core.List.{List, [], _∷_, _++_, List·Memᴰ, List·Memᴰ·head, List·Memᴰ·not-nil, List·Memᴰ·append-cases, Memᴰ·append-left, Memᴰ·append-right, List·Memᴰ·eq-of-singleton}
+use native.Mathlib.Omega.{arith}
+use lib.Dec.{eqb}
+use lib.ListN.{length, getD}
+use Rattle.hex.specs.Digits.{pick}
+use Rattle.policy.specs.Model.{Table}
+use Rattle.policy.specs.Wellformed.{Wellformed}
+use Rattle.relations.proofs.Laws.Decides.{decides-holds, decides-eqb, decided}
+use Rattle.kinds.specs.Kinds.{IsRow, noSecond, Alone, Paired, kinds, Anomaly}
+use Rattle.kinds.specs.Tests.{anomaly}
+use Rattle.kinds.specs.Entries.{Entry, entry, gather, listed, entries}
+use Rattle.kinds.proofs.Laws.Anomalies.{_▹_, anomaly-decides}
+
+-- ---- lists one after another
+
+module _ (e : Entry) (f : ℕ → List Entry) where
+  gather-in : (n k x : ℕ) → k ≤ x → x < k + n → List·Memᴰ e (f x) → List·Memᴰ e (gather n k f)
+  unfolding gather
+  gather-in zero k x l h m = absurd (omega arith)
+  gather-in (suc n) k x l h m = elim (decided (eqb k x) (decides-eqb k x)) [
+    | inl q ↦ Memᴰ·append-left {s = f k} (gather n (suc k) f) (rw q m)
+    | inr ne ↦ Memᴰ·append-right (f k) (gather-in n (suc k) x (omega (arith, ne)) (omega arith) m)
+  ]
+
+  pub gather-of : (n k : ℕ) → List·Memᴰ e (gather n k f) → (x : ℕ) × (k ≤ x) × (x < k + n) × List·Memᴰ e (f x)
+  unfolding gather
+  gather-of zero k m = absurd (List·Memᴰ·not-nil m)
+  gather-of (suc n) k m = elim (List·Memᴰ·append-cases (f k) m) [
+    | inl h ↦ (k, omega arith, omega arith, h)
+    | inr r ↦ let h = gather-of n (suc k) r in (h .0, omega (arith, h .1), omega (arith, h .2), h .3)
+  ]
+
+-- ---- what an anomaly's numbers are
+
+-- Each statement of the list gives B.
+abbrev EachGives : Type 0 → List (Type 0) → Type 0
+EachGives B [] = Unit {0}
+EachGives B (P ∷ Ps) = (P → B) × EachGives B Ps
+
+gives-at : (B : Type 0) (Ps : List (Type 0)) → EachGives B Ps → (k : ℕ) → getD Ps k ⊥ → (k < length Ps) × B
+gives-at B [] g k h = absurd h
+gives-at B (P ∷ Ps) g zero h = (omega arith, g .0 h)
+gives-at B (P ∷ Ps) g (suc k) h = let r = gives-at B Ps (g .1) k h in (omega (arith, r .0), r .1)
+
+module _ (t : Table) where
+  -- The second number is a row's, or FF.
+  abbrev Second : ℕ → Type 0
+  Second j = IsRow t j ⊎ (j ≡ noSecond)
+
+  of-one : (j : ℕ) {P : Type 0} → Alone t j P → Second j
+  of-one j h = inr (h .0)
+
+  of-two : (j : ℕ) {P : Type 0} → Paired t j P → Second j
+  of-two j h = inl (h .0)
+
+  kinds-second : (i j : ℕ) → EachGives (Second j) (kinds t i j)
+  kinds-second i j =
+      (λ h. absurd h) ▹ of-one j ▹ of-one j ▹ of-one j ▹ of-one j ▹ of-two j ▹ of-two j
+      ▹ of-two j ▹ of-two j ▹ of-two j ▹ of-two j ▹ of-two j ▹ of-one j ▹ of-two j
+      ▹ of-one j ▹ of-one j ▹ of-one j ▹ of-one j ▹ of-two j ▹ of-one j ▹ of-one j
+      ▹ tt
+
+  not-0 : (i kind j : ℕ) → Anomaly t i kind j → 0 < kind
+  not-0 i zero j h = absurd (h .1)
+  not-0 i (suc kind) j h = omega arith
+
+  -- ---- the entries
+
+  pub listed-of : (i kind j : ℕ) (e : Entry) → List·Memᴰ e (listed t i kind j) → (e ≡ entry i kind j) × (anomaly t i kind j ≡ true)
+  listed-of i kind j e m = go (anomaly t i kind j) refl m
+    where
+      go : (b : Bool) → anomaly t i kind j ≡ b → List·Memᴰ e (pick b (entry i kind j ∷ []) []) → (e ≡ entry i kind j) × (anomaly t i kind j ≡ true)
+      go true q n = (List·Memᴰ·eq-of-singleton n, q)
+      go false q n = absurd (List·Memᴰ·not-nil n)
+
+  -- As in `entries`: of a row and a kind, and of a row.
+  abbrev pub ofKind : ℕ → ℕ → List Entry
+  ofKind i kind = gather (length (t .rows)) 0 (λ j. listed t i kind j) ++ listed t i kind noSecond
+
+  abbrev pub ofRow : ℕ → List Entry
+  ofRow i = gather 20 1 (ofKind i)
+
+  module _ (w : Wellformed t) (i kind j : ℕ) where
+    listed-in : Anomaly t i kind j → List·Memᴰ (entry i kind j) (listed t i kind j)
+    listed-in h = rw (decides-holds (anomaly t i kind j) (anomaly-decides t w i j kind) h) (List·Memᴰ·head refl)
+
+    anomaly-at : (i' kind' j' : ℕ) → (entry i kind j ≡ entry i' kind' j') × (anomaly t i' kind' j' ≡ true) → Anomaly t i kind j
+    anomaly-at i' kind' j' h =
+        subst (λ (e : Entry). Anomaly t (e .row) (e .kind) (e .second)) (sym (h .0)) (anomaly-decides t w i' j' kind' .yes (h .1))
+
+    -- "the list is the one that they define, no entry more, none less"
+    pub entries-exact : List·Memᴰ (entry i kind j) (entries t) ↔ Anomaly t i kind j
+    unfolding entries
+    entries-exact =
+        let e = entry i kind j in
+        let n = length (t .rows) in (
+          λ m.
+              let r = gather-of e ofRow n 0 m in
+              let k = gather-of e (ofKind (r .0)) 20 1 (r .3) in
+              elim (List·Memᴰ·append-cases (gather n 0 (λ s. listed t (r .0) (k .0) s)) (k .3)) [
+                | inl p ↦ let s = gather-of e (λ x. listed t (r .0) (k .0) x) n 0 p in anomaly-at (r .0) (k .0) (s .0) (listed-of (r .0) (k .0) (s .0) e (s .3))
+                | inr a ↦ anomaly-at (r .0) (k .0) noSecond (listed-of (r .0) (k .0) noSecond e a)
+              ],
+          λ h.
+              let b = gives-at (Second j) (kinds t i j) (kinds-second i j) kind (h .1) in
+              let z = not-0 i kind j h in
+              gather-in e ofRow n 0 i (omega arith) (omega (arith, h .0))
+              (gather-in e (ofKind i) 20 1 kind (omega arith) (omega (arith, b .0))
+              (elim (b .1) [
+                | inl p ↦ Memᴰ·append-left (listed t i kind noSecond) (gather-in e (λ s. listed t i kind s) n 0 j (omega arith) (omega (arith, p)) (listed-in h))
+                | inr a ↦ Memᴰ·append-right (gather n 0 (λ s. listed t i kind s)) (subst (λ (x : ℕ). List·Memᴰ e (listed t i kind x)) a (listed-in h))
+              ])),
+        )

@@ -1,0 +1,18 @@
+-- Document 01's table T has the anomalies that are printed for it: each test computes.
+-- Assumes nothing.
+use mathlib.Core.Path.{refl}
+use Rattle.relations.specs.Lists.{among, same}
+use Rattle.relations.specs.Entities.{upward, ancestors, rootOf, atOrAbove}
+use Rattle.relations.specs.Technologies.{layerOf, dominates}
+use Rattle.relations.specs.Coefficients.{atLeast}
+use Rattle.relations.specs.Selectors.{contains, overlaps, inhabited, meet, exchange, sameSelector}
+use Rattle.relations.specs.Groups.{sameGroup}
+use Rattle.search.specs.Search.{search, from, tries}
+use Rattle.verdicts.specs.Verdicts.{covers, coverOf, verdictAfter}
+use Rattle.kinds.specs.Tests.{some, inOrder, twice, internalLoop, outOfPlace, lacks, nonEnforceable, inadequate, rides, strictlyStronger, superfluous, filters, filtered, layerTwo, answers, asymmetric, cyclic, goesOn, chains, alternativePath, dead, meets, encloses, stronger, earlier, ordered, shadowing, redundancy, sameTraffic, exception, correlation, inclusion, null, affinity, contradiction, crossing, skewed, monitorable, anomaly}
+use Rattle.kinds.specs.Entries.{gather, entries}
+use Rattle.kinds.specs.Examples.{Printed}
+
+pub printed : Printed
+unfolding among same upward ancestors rootOf atOrAbove layerOf dominates atLeast contains overlaps inhabited meet exchange sameSelector sameGroup search from tries covers coverOf verdictAfter some inOrder twice internalLoop outOfPlace lacks nonEnforceable inadequate rides strictlyStronger superfluous filters filtered layerTwo answers asymmetric cyclic goesOn chains alternativePath dead meets encloses stronger earlier ordered shadowing redundancy sameTraffic exception correlation inclusion null affinity contradiction crossing skewed monitorable anomaly gather entries
+printed = refl

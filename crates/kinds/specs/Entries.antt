@@ -1,0 +1,44 @@
+-- Document 01: the entries of a table's anomalies, "first row, kind, second number", "in ascending order, compared in this sequence".
+-- Assumes nothing.
+use Prim.Native.Nat.{ℕ, zero, suc, _<_}
+use mathlib.Core.Path.{_≡_}
+use mathlib.Core.List.{List, [], _∷_, _++_, List·Memᴰ}
+use lib.ListN.{length}
+use Rattle.hex.specs.Digits.{pick}
+use Rattle.policy.specs.Model.{Table}
+use Rattle.kinds.specs.Kinds.{noSecond}
+use Rattle.kinds.specs.Tests.{anomaly}
+
+pub record Entry : Type 0 where
+  pub row : ℕ
+  pub kind : ℕ
+  pub second : ℕ
+
+abbrev pub entry : ℕ → ℕ → ℕ → Entry
+entry i kind j = record { row = i; kind = kind; second = j }
+
+-- The lists of n numbers from k on, one after another.
+unfoldable pub gather : ℕ → ℕ → (ℕ → List Entry) → List Entry
+gather zero k f = []
+gather (suc n) k f = f k ++ gather n (suc k) f
+
+-- The entry, if there is the anomaly.
+abbrev pub listed : Table → ℕ → ℕ → ℕ → List Entry
+listed t i kind j = pick (anomaly t i kind j) (entry i kind j ∷ []) []
+
+-- For each row, for each kind, for each second number: the rows, and FF.
+unfoldable pub entries : Table → List Entry
+entries t =
+    gather (length (t .rows)) 0
+    (λ i. gather 20 1 (λ kind. gather (length (t .rows)) 0 (λ j. listed t i kind j) ++ listed t i kind noSecond))
+
+-- "compared in this sequence": row, kind, second number.
+pub data Before : Entry → Entry → Type 0 where
+  by-row : {e f : Entry} → e .row < f .row → Before e f
+  by-kind : {e f : Entry} → e .row ≡ f .row → e .kind < f .kind → Before e f
+  by-second : {e f : Entry} → e .row ≡ f .row → e .kind ≡ f .kind → e .second < f .second → Before e f
+
+-- Each entry is before all that follow it; so each is there once.
+abbrev pub Ascending : List Entry → Type 0
+Ascending [] = Unit {0}
+Ascending (e ∷ l) = ((f : Entry) → List·Memᴰ f l → Before e f) × Ascending l

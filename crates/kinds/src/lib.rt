@@ -1,0 +1,1 @@
+// The twenty kinds of anomalies, a function each.
