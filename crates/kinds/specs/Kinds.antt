@@ -10,7 +10,7 @@ use Rattle.relations.specs.Entities.{AtOrAbove, rootOf}
 use Rattle.relations.specs.Technologies.{layerOf, Dominates}
 use Rattle.relations.specs.Coefficients.{AtLeast}
 use Rattle.relations.specs.Selectors.{Contains, Overlap, MeetAll, exchange}
-use Rattle.relations.specs.Groups.{Dead}
+use Rattle.relations.specs.Groups.{SameGroup, Dead}
 
 -- The second number of an entry of one row: FF.
 abbrev pub noSecond : ℕ
@@ -148,21 +148,20 @@ module _ (t : Table) where
     pub holder : rowAt t i .holder ≡ rowAt t j .holder
     pub earlier : i < j
 
-  -- "For 5 to 8, i is earlier, and t and G are equal".
-  pub record Ordered (i j : ℕ) : Type 0 where
-    pub pair : Earlier i j
-    pub technology : rowAt t i .technology ≡ rowAt t j .technology
-    pub gateways : rowAt t i .gateways ≡ rowAt t j .gateways
+  -- "For 5 to 8, i is earlier, and t and G are equal": with one holder, the rows are of one group.
+  pub record EarlierInGroup (i j : ℕ) : Type 0 where
+    pub group : SameGroup (rowAt t i) (rowAt t j)
+    pub earlier : i < j
 
   -- "5 shadowing: si ⪰ sj, di ⪰ dj, Si ⪰ Sj, not Ci ⪰ Cj."
   pub record Shadowing (i j : ℕ) : Type 0 where
-    pub pair : Ordered i j
+    pub pair : EarlierInGroup i j
     pub encloses : Encloses i j
     pub weaker : Stronger i j → ⊥
 
   -- "6 redundancy: the same with Ci ⪰ Cj."
   pub record Redundancy (i j : ℕ) : Type 0 where
-    pub pair : Ordered i j
+    pub pair : EarlierInGroup i j
     pub encloses : Encloses i j
     pub stronger : Stronger i j
 
@@ -174,14 +173,14 @@ module _ (t : Table) where
 
   -- "7 exception: sj ⪰ si, dj ⪰ di, Sj ⪰ Si, not all three equal, not Ci ⪰ Cj."
   pub record Exception (i j : ℕ) : Type 0 where
-    pub pair : Ordered i j
+    pub pair : EarlierInGroup i j
     pub enclosed : Encloses j i
     pub different : SameTraffic i j → ⊥
     pub weaker : Stronger i j → ⊥
 
   -- "8 correlation: same source root, same destination root, boxes overlap, none of 5 to 7."
   pub record Correlation (i j : ℕ) : Type 0 where
-    pub pair : Ordered i j
+    pub pair : EarlierInGroup i j
     pub meets : Meets i j
     pub no-shadowing : Shadowing i j → ⊥
     pub no-redundancy : Redundancy i j → ⊥

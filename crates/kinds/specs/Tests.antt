@@ -11,6 +11,7 @@ use Rattle.relations.specs.Entities.{atOrAbove}
 use Rattle.relations.specs.Technologies.{layerOf, dominates}
 use Rattle.relations.specs.Coefficients.{atLeast}
 use Rattle.relations.specs.Selectors.{contains, overlaps, inhabited, meet, exchange, sameSelector}
+use Rattle.relations.specs.Groups.{sameGroup}
 use Rattle.search.specs.Search.{Answer, found, none}
 use Rattle.verdicts.specs.Verdicts.{verdictOn}
 use Rattle.kinds.specs.Kinds.{sourceRoot, destinationRoot, noSecond}
@@ -135,15 +136,14 @@ module _ (t : Table) where
   unfoldable pub earlier : ℕ → ℕ → Bool
   earlier i j = eqb (rowAt t i .holder) (rowAt t j .holder) && ltb i j
 
-  unfoldable pub ordered : ℕ → ℕ → Bool
-  ordered i j =
-      earlier i j && (eqb (rowAt t i .technology) (rowAt t j .technology) && same (rowAt t i .gateways) (rowAt t j .gateways))
+  unfoldable pub earlierInGroup : ℕ → ℕ → Bool
+  earlierInGroup i j = sameGroup (rowAt t i) (rowAt t j) && ltb i j
 
   unfoldable pub shadowing : ℕ → ℕ → Bool
-  shadowing i j = ordered i j && (encloses i j && not (stronger i j))
+  shadowing i j = earlierInGroup i j && (encloses i j && not (stronger i j))
 
   unfoldable pub redundancy : ℕ → ℕ → Bool
-  redundancy i j = ordered i j && (encloses i j && stronger i j)
+  redundancy i j = earlierInGroup i j && (encloses i j && stronger i j)
 
   unfoldable pub sameTraffic : ℕ → ℕ → Bool
   sameTraffic i j =
@@ -151,10 +151,10 @@ module _ (t : Table) where
       && (eqb (rowAt t i .destination) (rowAt t j .destination) && sameSelector (rowAt t i .selector) (rowAt t j .selector))
 
   unfoldable pub exception : ℕ → ℕ → Bool
-  exception i j = ordered i j && (encloses j i && (not (sameTraffic i j) && not (stronger i j)))
+  exception i j = earlierInGroup i j && (encloses j i && (not (sameTraffic i j) && not (stronger i j)))
 
   unfoldable pub correlation : ℕ → ℕ → Bool
-  correlation i j = ordered i j && (meets i j && (not (shadowing i j) && (not (redundancy i j) && not (exception i j))))
+  correlation i j = earlierInGroup i j && (meets i j && (not (shadowing i j) && (not (redundancy i j) && not (exception i j))))
 
   unfoldable pub inclusion : ℕ → ℕ → Bool
   inclusion i j =

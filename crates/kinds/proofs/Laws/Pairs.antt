@@ -3,19 +3,20 @@
 use Prim.Native.Nat.{ℕ}
 use mathlib.Core.Path.{_≡_}
 use Rattle.policy.specs.Model.{Table, rowAt, parentOf}
-use Rattle.policy.specs.Wellformed.{Wellformed, Ordered as OrderedSelector}
+use Rattle.policy.specs.Wellformed.{Wellformed, Ordered}
 use Rattle.relations.specs.Decides.{Decides}
 use Rattle.relations.proofs.Laws.Decides.{decides-as, decides-and, decides-or, decides-not, decides-eqb, decides-ltb}
 use Rattle.relations.proofs.Laws.Lists.{among-decides, same-decides}
 use Rattle.relations.proofs.Laws.Entities.{atOrAbove-decides}
 use Rattle.relations.proofs.Laws.Technologies.{dominates-decides}
 use Rattle.relations.proofs.Laws.Coefficients.{atLeast-decides}
+use Rattle.relations.proofs.Laws.Groups.{sameGroup-decides}
 use Rattle.relations.proofs.Laws.Selectors.{contains-decides, overlaps-decides, sameSelector-decides}
-use Rattle.kinds.specs.Kinds.{IsRow, Meets, Encloses, Stronger, Earlier, Ordered, Shadowing, Redundancy, SameTraffic, Exception, Correlation, Inclusion, Affinity, Contradiction, Crossing, Skewed, Monitorable}
-use Rattle.kinds.specs.Tests.{meets, encloses, stronger, earlier, ordered, shadowing, redundancy, sameTraffic, exception, correlation, inclusion, null, affinity, contradiction, crossing, skewed, monitorable}
+use Rattle.kinds.specs.Kinds.{IsRow, Meets, Encloses, Stronger, Earlier, EarlierInGroup, Shadowing, Redundancy, SameTraffic, Exception, Correlation, Inclusion, Affinity, Contradiction, Crossing, Skewed, Monitorable}
+use Rattle.kinds.specs.Tests.{meets, encloses, stronger, earlier, earlierInGroup, shadowing, redundancy, sameTraffic, exception, correlation, inclusion, null, affinity, contradiction, crossing, skewed, monitorable}
 
 module _ (t : Table) (w : Wellformed t) where
-  pub selector-ordered : (i : ℕ) → IsRow t i → OrderedSelector (rowAt t i .selector)
+  pub selector-ordered : (i : ℕ) → IsRow t i → Ordered (rowAt t i .selector)
   selector-ordered i h = w .row i h .selector .ordered
 
   pub encloses-decides : (i j : ℕ) → IsRow t j → Decides (encloses t i j) (Encloses t i j)
@@ -34,11 +35,11 @@ module _ (t : Table) (w : Wellformed t) where
       decides-as (λ e. record { holder = e .0; earlier = e .1 }) (λ e. (e .holder, e .earlier))
       (decides-and _ _ (decides-eqb _ _) (decides-ltb i j))
 
-  pub ordered-decides : (i j : ℕ) → Decides (ordered t i j) (Ordered t i j)
-  unfolding ordered
-  ordered-decides i j =
-      decides-as (λ e. record { pair = e .0; technology = e .1 .0; gateways = e .1 .1 }) (λ e. (e .pair, (e .technology, e .gateways)))
-      (decides-and _ _ (earlier-decides i j) (decides-and _ _ (decides-eqb _ _) (same-decides _ _)))
+  pub earlierInGroup-decides : (i j : ℕ) → Decides (earlierInGroup t i j) (EarlierInGroup t i j)
+  unfolding earlierInGroup
+  earlierInGroup-decides i j =
+      decides-as (λ e. record { group = e .0; earlier = e .1 }) (λ e. (e .group, e .earlier))
+      (decides-and _ _ (sameGroup-decides _ _) (decides-ltb i j))
 
   pub sameTraffic-decides : (i j : ℕ) → Decides (sameTraffic t i j) (SameTraffic t i j)
   unfolding sameTraffic
@@ -58,20 +59,20 @@ module _ (t : Table) (w : Wellformed t) where
     unfolding shadowing
     shadowing-decides =
         decides-as (λ e. record { pair = e .0; encloses = e .1 .0; weaker = e .1 .1 }) (λ e. (e .pair, (e .encloses, e .weaker)))
-        (decides-and _ _ (ordered-decides i j) (decides-and _ _ (encloses-decides i j hj) (decides-not _ (stronger-decides i j))))
+        (decides-and _ _ (earlierInGroup-decides i j) (decides-and _ _ (encloses-decides i j hj) (decides-not _ (stronger-decides i j))))
 
     pub redundancy-decides : Decides (redundancy t i j) (Redundancy t i j)
     unfolding redundancy
     redundancy-decides =
         decides-as (λ e. record { pair = e .0; encloses = e .1 .0; stronger = e .1 .1 }) (λ e. (e .pair, (e .encloses, e .stronger)))
-        (decides-and _ _ (ordered-decides i j) (decides-and _ _ (encloses-decides i j hj) (stronger-decides i j)))
+        (decides-and _ _ (earlierInGroup-decides i j) (decides-and _ _ (encloses-decides i j hj) (stronger-decides i j)))
 
     pub exception-decides : Decides (exception t i j) (Exception t i j)
     unfolding exception
     exception-decides =
         decides-as (λ e. record { pair = e .0; enclosed = e .1 .0; different = e .1 .1 .0; weaker = e .1 .1 .1 })
         (λ e. (e .pair, (e .enclosed, (e .different, e .weaker))))
-        (decides-and _ _ (ordered-decides i j)
+        (decides-and _ _ (earlierInGroup-decides i j)
         (decides-and _ _ (encloses-decides j i hi)
         (decides-and _ _ (decides-not _ (sameTraffic-decides i j)) (decides-not _ (stronger-decides i j)))))
 
@@ -80,7 +81,7 @@ module _ (t : Table) (w : Wellformed t) where
     correlation-decides =
         decides-as (λ e. record { pair = e .0; meets = e .1 .0; no-shadowing = e .1 .1 .0; no-redundancy = e .1 .1 .1 .0; no-exception = e .1 .1 .1 .1 })
         (λ e. (e .pair, (e .meets, (e .no-shadowing, (e .no-redundancy, e .no-exception)))))
-        (decides-and _ _ (ordered-decides i j)
+        (decides-and _ _ (earlierInGroup-decides i j)
         (decides-and _ _ meets-decides
         (decides-and _ _ (decides-not _ shadowing-decides)
         (decides-and _ _ (decides-not _ redundancy-decides) (decides-not _ exception-decides)))))

@@ -22,6 +22,32 @@ within-decides r x =
     decides-as (λ h. record { low = h .0; high = h .1 }) (λ w. (w .low, w .high))
     (decides-and (leb (r .low) x) (leb x (r .high)) (decides-leb (r .low) x) (decides-leb x (r .high)))
 
+-- A packet in a selector, field by field.
+module _ (r : Range) (s : Selector) (x : ℕ) (p : Packet) where
+  pub holds-both : Within r x → Holds s p → Holds (r ∷ s) (x ∷ p)
+  unfolding Holds
+  holds-both w h = (w, h)
+
+  pub holds-first : Holds (r ∷ s) (x ∷ p) → Within r x
+  unfolding Holds
+  holds-first h = h .0
+
+  pub holds-rest : Holds (r ∷ s) (x ∷ p) → Holds s p
+  unfolding Holds
+  holds-rest h = h .1
+
+pub holds-nothing : Holds [] []
+unfolding Holds
+holds-nothing = tt
+
+pub not-longer : (x : ℕ) (p : Packet) → Holds [] (x ∷ p) → ⊥
+unfolding Holds
+not-longer x p h = h
+
+pub not-shorter : (r : Range) (s : Selector) → Holds (r ∷ s) [] → ⊥
+unfolding Holds
+not-shorter r s h = h
+
 pub holds-decides : (s : Selector) (p : Packet) → Decides (holds s p) (Holds s p)
 unfolding holds Holds
 holds-decides [] [] = decides-true tt

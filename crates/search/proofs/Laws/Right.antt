@@ -18,7 +18,7 @@ use Rattle.relations.specs.Decides.{Decides}
 use Rattle.relations.specs.Ranges.{Within, within}
 use Rattle.relations.specs.Selectors.{Holds}
 use Rattle.relations.proofs.Laws.Decides.{decides-leb, decides-ltb, decides-and, decides-holds}
-use Rattle.relations.proofs.Laws.Selectors.{within-decides}
+use Rattle.relations.proofs.Laws.Selectors.{within-decides, holds-both, holds-first, holds-rest, holds-nothing, not-longer, not-shorter}
 use Rattle.search.specs.Search.{first, narrow, lesser, least, value, last, next, Answer, found, none, or-later, onward, tries, from, search}
 use Rattle.search.specs.Least.{_≤ₚ_, done, less, same, Claimed, Least, Right}
 
@@ -112,24 +112,22 @@ narrow-of n v ((r ∷ c) ∷ bs) b s i = go (within r v) (within-decides r v) (n
 
 -- What the boxes claim with v in the first field the narrowed ones claim.
 narrow-claims : (v : ℕ) (bs : List Selector) (q : Packet) → Claimed bs (v ∷ q) → Claimed (narrow v bs) q
-unfolding Holds
 narrow-claims v bs q c = go (c .box) (c .listed) (c .holds)
   where
     go : (b : Selector) → List·Memᴰ b bs → Holds b (v ∷ q) → Claimed (narrow v bs) q
-    go [] i h = absurd h
-    go (r ∷ b) i h = record { box = b; listed = narrow-in v bs r b (h .0) i; holds = h .1 }
+    go [] i h = absurd (not-longer v q h)
+    go (r ∷ b) i h = record { box = b; listed = narrow-in v bs r b (holds-first r b v q h) i; holds = holds-rest r b v q h }
 
 -- ---- the candidates of one field
 
 module _ (r : Range) (rs : Selector) (bs : List Selector) (sized : Sized (suc (length rs)) bs) where
   -- The key step: from a candidate up to the least high, past which the next one is, no box's claim ends.
   claims-reach : (v x : ℕ) (q : Packet) → v ≤ x → x ≤ least v (r .high) bs → Claimed (narrow v bs) q → Claimed bs (x ∷ q)
-  unfolding Holds
   claims-reach v x q l h c =
       let o = narrow-of (length rs) v bs (c .box) sized (c .listed) in
       let w = o .1 in
       let k = least-high v (r .high) bs (o .0 ∷ c .box) (o .2) (w .high) in
-      record { box = o .0 ∷ c .box; listed = o .2; holds = (record { low = omega arith; high = omega arith }, c .holds) }
+      record { box = o .0 ∷ c .box; listed = o .2; holds = holds-both (o .0) (c .box) x q (record { low = omega arith; high = omega arith }) (c .holds) }
 
   -- Each packet of the row whose first field is below v is claimed.
   abbrev Passed : ℕ → Type 0
@@ -143,29 +141,27 @@ module _ (r : Range) (rs : Selector) (bs : List Selector) (sized : Sized (suc (l
   ]
 
   all-passed : (v : ℕ) → r .high < v → Passed v → Right (r ∷ rs) bs none
-  unfolding Holds
-  all-passed v h g [] t = absurd t
-  all-passed v h g (x ∷ q) t = let w = t .0 in g x q (w .low) (omega arith) (t .1)
+  all-passed v h g [] t = absurd (not-shorter r rs t)
+  all-passed v h g (x ∷ q) t = let w = holds-first r rs x q t in g x q (w .low) (omega arith) (holds-rest r rs x q t)
 
   -- What is found at v, where all before it is claimed, is the least.
   here : (v : ℕ) (p : Packet) → Within r v → Passed v → Least rs (narrow v bs) p → Least (r ∷ rs) bs (v ∷ p)
-  unfolding Holds
   here v p w g m = record {
-    inside = (w, m .inside);
+    inside = holds-both r rs v p w (m .inside);
     unclaimed = λ c. m .unclaimed (narrow-claims v bs p c);
     least = lowest;
   }
     where
       lowest : (q : Packet) → Holds (r ∷ rs) q → (Claimed bs q → ⊥) → (v ∷ p) ≤ₚ q
-      lowest [] t f = absurd t
+      lowest [] t f = absurd (not-shorter r rs t)
       lowest (x ∷ q) t f = elim (decLt v x) [
         | yes a ↦ less a
         | no a ↦ elim (decLt x v) [
-          | yes b ↦ absurd (f (g x q (t .0 .low) b (t .1)))
+          | yes b ↦ absurd (f (g x q (holds-first r rs x q t .low) b (holds-rest r rs x q t)))
           | no b ↦
               let e : v ≡ x = omega arith in
               let k = least-from v (r .high) bs in
-              same e (m .least q (t .1) (λ c. f (claims-reach v x q (omega arith) (omega arith) c)))
+              same e (m .least q (holds-rest r rs x q t) (λ c. f (claims-reach v x q (omega arith) (omega arith) c)))
         ]
       ]
 
@@ -198,12 +194,12 @@ no-fields (r ∷ b) bs s q h = absurd (omega arith)
 
 -- The row is to be ordered: its low is tried with no test that it is at most the high.
 pub search-right : (s : Selector) (bs : List Selector) → Ordered s → Sized (length s) bs → Right s bs (search s bs)
-unfolding search from Holds
-search-right [] [] o n = record { inside = tt; unclaimed = λ c. List·Memᴰ·not-nil (c .listed); least = lowest }
+unfolding search from
+search-right [] [] o n = record { inside = holds-nothing; unclaimed = λ c. List·Memᴰ·not-nil (c .listed); least = lowest }
   where
     lowest : (q : Packet) → Holds [] q → (Claimed [] q → ⊥) → [] ≤ₚ q
     lowest [] h f = done
-    lowest (x ∷ q) h f = absurd h
+    lowest (x ∷ q) h f = absurd (not-longer x q h)
 search-right [] (b ∷ bs) o n = no-fields b bs n
 search-right (r ∷ rs) bs o n =
     tries-right r rs bs n (λ cs. search rs cs) (λ v. search-right rs (narrow v bs) (o .1) (sized-narrow (length rs) v bs n))
