@@ -1,3 +1,4 @@
 -- The laws that crates above cite.
 pub mod Calls
 pub mod Examples
+pub mod Listings

@@ -1,4 +1,4 @@
--- Document 01, "The six calls": the answers of Check, Line and Witness for every input.
+-- Document 01, "The six calls": the answers of Check, Line, Witness and List for every input.
 -- Assumes nothing.
 use Prim.Native.Nat.{ℕ, _+_}
 use mathlib.Core.List.{List, []}
@@ -11,8 +11,12 @@ use Rattle.reader.specs.Lines.{linesOf}
 use Rattle.reader.specs.States.{Parsed, accepted, refusedAt, parse}
 use Rattle.search.specs.Search.{Answer, found, none}
 use Rattle.verdicts.specs.Verdicts.{verdictOn}
+use Rattle.kinds.specs.Entries.{entries}
+use Rattle.listing.specs.Bytes.{fits, written}
 use Rattle.analyser.specs.declared.Checked.{Checked}
 use Rattle.analyser.specs.declared.Checked.the-variants.{Counts, Refused}
+use Rattle.analyser.specs.declared.Listed.{Listed}
+use Rattle.analyser.specs.declared.Listed.the-variants.{Count, Refused as ListRefusal}
 use Rattle.analyser.specs.declared.Witness.{Witness}
 use Rattle.analyser.specs.declared.Witness.the-variants.{Dead, Packet as Found, Refused as Refusal}
 
@@ -59,3 +63,29 @@ witnessIn k (refusedAt number line) = refusal number line
 
 unfoldable pub witnessOf : List ℕ → ℕ → WitnessAnswer
 witnessOf text k = witnessIn k (parse text)
+
+-- What List answers: the count, or a refusal by number and line.
+pub data ListAnswer : Type 0 where
+  count : ℕ → ListAnswer
+  listRefusal : ℕ → ℕ → ListAnswer
+
+-- The cases of the code's enum.
+abbrev pub listAnswerOf : Listed → ListAnswer
+listAnswerOf (Count n) = count n
+listAnswerOf (ListRefusal number line) = listRefusal number line
+
+-- "List .. returns the count"; 8 where the output is shorter than the result.
+abbrev pub listIn : List ℕ → Parsed → ListAnswer
+listIn out (accepted t) = pick (fits (entries t) out) (count (length (entries t))) (listRefusal 8 0)
+listIn out (refusedAt number line) = listRefusal number line
+
+unfoldable pub listOf : List ℕ → List ℕ → ListAnswer
+listOf text out = listIn out (parse text)
+
+-- "three bytes an entry .. The rest of the buffer is unchanged." "A refusal writes to no output."
+abbrev pub writtenIn : List ℕ → Parsed → List ℕ
+writtenIn out (accepted t) = written (entries t) out
+writtenIn out (refusedAt number line) = out
+
+unfoldable pub listWritten : List ℕ → List ℕ → List ℕ
+listWritten text out = writtenIn out (parse text)

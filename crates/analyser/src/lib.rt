@@ -1,6 +1,6 @@
 // The analyser's calls. Each takes the text of a table.
 ghost use mathlib.Core.Path.{_≡_};
-ghost use Rattle.analyser.specs.Calls.{checkOf, lineOf, answerOf, witnessOf};
+ghost use Rattle.analyser.specs.Calls.{checkOf, lineOf, answerOf, witnessOf, listAnswerOf, listOf, listWritten};
 use policy::selector::Packet;
 use verdicts::Verdict;
 
@@ -21,6 +21,12 @@ pub enum Checked {
 pub enum Witness {
     Dead,
     Packet(Packet),
+    Refused { number: u8, line: u8 },
+}
+
+// What List answers: how many entries there are, or a refusal.
+pub enum Listed {
+    Count(usize),
     Refused { number: u8, line: u8 },
 }
 
@@ -76,5 +82,24 @@ pub fn witness_of(text: &[u8], k: usize) -> Witness
     match verdicts::judge(&r.table.parents, &r.table.heads, &r.table.bounds, k) {
         Verdict::Packet(p) => Witness::Packet(p),
         Verdict::Dead => Witness::Dead,
+    }
+}
+
+// Writes the entries of the table's anomalies into out from its start, three bytes each in ascending order: first row, kind, second number.
+// The rest of out is unchanged, and all of it where there is a refusal.
+pub fn list(text: &[u8], out: &mut [u8]) -> Listed
+    ensures answers { λ r. ⌜ listAnswerOf r ≡ listOf (now (text .entry)) (now (out .entry)) ⌝ }
+    ensures writes { λ _. ⌜ now (out .exit) ≡ listWritten (now (text .entry)) (now (out .entry)) ⌝ }
+{
+    let r = reader::read(text);
+    if r.number != 0 {
+        return Listed::Refused {
+            number: r.number,
+            line: r.line,
+        };
+    }
+    match listing::list(r.table, out) {
+        listing::Listed::Count(n) => Listed::Count(n),
+        listing::Listed::Short => Listed::Refused { number: 8, line: 0 },
     }
 }

@@ -1,6 +1,8 @@
 // For each file that an argument names: the name, and what the calls answer of the text in it. Check's answer is the counts
-// of entities, filters and rows, two digits each, or ! and two digits each of number and line. Then Line's answer for each row.
+// of entities, filters and rows, two digits each, or ! and two digits each of number and line. Then Line's answer for each row, and List's
+// entries, six digits each.
 use analyser::Checked;
+use analyser::Listed;
 use libc::STDOUT_FILENO;
 
 fn put(b: u8) {
@@ -25,6 +27,26 @@ fn put_lines(text: &[u8], rows: usize) {
     }
 }
 
+// Three bytes a line.
+fn put_entries(entries: &[u8]) {
+    let mut at = 0;
+    while at + 2 < entries.len() {
+        put(entries[at]);
+        put(entries[at + 1]);
+        put(entries[at + 2]);
+        io::write_all(STDOUT_FILENO, b"\n");
+        at += 3;
+    }
+}
+
+fn put_list(text: &[u8]) {
+    let mut out = [0u8; 38400];
+    match analyser::list(text, &mut out) {
+        Listed::Count(n) => put_entries(&out[..3 * n]),
+        Listed::Refused { number: _, line: _ } => {}
+    }
+}
+
 fn answer(text: &[u8]) {
     match analyser::check(text) {
         Checked::Counts {
@@ -37,6 +59,7 @@ fn answer(text: &[u8]) {
             put_count(rows);
             io::write_all(STDOUT_FILENO, b"\n");
             put_lines(text, rows);
+            put_list(text);
         }
         Checked::Refused { number, line } => {
             io::write_all(STDOUT_FILENO, b"!");

@@ -1,9 +1,16 @@
 -- The laws that crates above cite.
 pub mod Lists
+pub mod Roots
+pub mod Loops
 pub mod Pairs
 pub mod Rows
 pub mod Paths
+pub mod Chains
 pub mod Anomalies
 pub mod Examples
 pub mod Entries
 pub mod Ascending
+pub mod Few
+pub mod Apart
+pub mod Splits
+pub mod Alike

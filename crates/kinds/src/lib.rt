@@ -1,1 +1,6 @@
-// The twenty kinds of anomalies, a function each.
+// The twenty kinds of anomalies: a function for each, equal to its test in specs/.
+pub mod pair;
+pub mod path;
+pub mod placed;
+pub mod roots;
+pub mod single;

@@ -29,7 +29,7 @@ pub struct Probe {
 }
 
 // Whether the first n of both arrays are the same.
-fn same_gateways(a: [u8; 8], b: [u8; 8], n: usize) -> bool
+fn same_first(a: [u8; 8], b: [u8; 8], n: usize) -> bool
     requires { ⌜ n ≤ 8 ⌝ }
     ensures { λ r. ⌜ r ≡ same (take n a) (take n b) ⌝ }
 {
@@ -43,6 +43,19 @@ fn same_gateways(a: [u8; 8], b: [u8; 8], n: usize) -> bool
     true
 }
 
+// Whether a and b have the same gateways.
+pub fn same_gateways(a: Row, b: Row) -> bool
+    ensures { λ r. ⌜ r ≡ same (rowOf a .gateways) (rowOf b .gateways) ⌝ }
+{
+    let n = a.gateway_count();
+    if n != b.gateway_count() {
+        return false;
+    }
+    let x = a.gateways;
+    let y = b.gateways;
+    same_first(x, y, n)
+}
+
 // Whether a and b are of one group: equal holder, technology and gateways.
 pub fn same_group(a: Row, b: Row) -> bool
     ensures { λ r. ⌜ r ≡ sameGroup (rowOf a) (rowOf b) ⌝ }
@@ -53,13 +66,7 @@ pub fn same_group(a: Row, b: Row) -> bool
     if a.technology != b.technology {
         return false;
     }
-    let n = a.gateway_count();
-    if n != b.gateway_count() {
-        return false;
-    }
-    let x = a.gateways;
-    let y = b.gateways;
-    same_gateways(x, y, n)
+    same_gateways(a, b)
 }
 
 // Whether the row matches the probe.

@@ -1,8 +1,9 @@
 // What the benchmark calls: a text and a row's number in, a number out.
 ghost use mathlib.Core.Path.{_≡_};
-ghost use Rattle.analyser.specs.Calls.{checkOf, witnessOf};
-ghost use Rattle.timed.specs.Codes.{checkCode, witnessCode};
+ghost use Rattle.analyser.specs.Calls.{checkOf, witnessOf, listOf};
+ghost use Rattle.timed.specs.Codes.{checkCode, witnessCode, listCode};
 use analyser::Checked;
+use analyser::Listed;
 use analyser::Witness;
 
 // 0 if the text is accepted, else 1.
@@ -29,5 +30,16 @@ pub extern "C" fn timed_witness(text: &[u8], k: usize) -> u64
         Witness::Packet(_) => 0,
         Witness::Dead => 1,
         Witness::Refused { number: _, line: _ } => 2,
+    }
+}
+
+// How many entries the list has, or 65536 if there is a refusal.
+#[no_mangle]
+pub extern "C" fn timed_list(text: &[u8], out: &mut [u8]) -> u64
+    ensures { λ n. ⌜ n ≡ listCode (listOf (now (text .entry)) (now (out .entry))) ⌝ }
+{
+    match analyser::list(text, out) {
+        Listed::Count(n) => n as u64,
+        Listed::Refused { number: _, line: _ } => 65536,
     }
 }

@@ -1,15 +1,16 @@
 -- The test of an anomaly agrees with its meaning, in a well-formed table, for every row, kind and second number.
 -- Assumes nothing.
 use Prim.Native.Nat.{ℕ, zero, suc}
-use mathlib.Core.Bool.{Bool, false}
+use mathlib.Core.Bool.{Bool, false, _&&_}
 use mathlib.Core.List.{List, [], _∷_}
+use lib.Dec.{eqb, ltb}
 use lib.ListN.{length, getD}
 use Rattle.policy.specs.Model.{Table}
 use Rattle.policy.specs.Wellformed.{Wellformed}
 use Rattle.relations.specs.Decides.{Decides}
 use Rattle.relations.proofs.Laws.Decides.{decides-false, decides-eqb, decides-ltb}
 use Rattle.kinds.specs.Kinds.{IsRow, Alone, Paired, noSecond, kinds, Anomaly}
-use Rattle.kinds.specs.Tests.{alone, paired, tests, anomaly}
+use Rattle.kinds.specs.Tests.{tests, anomaly}
 use Rattle.kinds.proofs.Laws.Lists.{decides-given}
 use Rattle.kinds.proofs.Laws.Rows as rows
 use Rattle.kinds.proofs.Laws.Pairs as pairs
@@ -35,13 +36,13 @@ each-at (b ∷ bs) (P ∷ Ps) d zero = d .0
 each-at (b ∷ bs) (P ∷ Ps) d (suc k) = each-at bs Ps (d .1) k
 
 module _ (t : Table) (w : Wellformed t) (i j : ℕ) where
-  one : (b : Bool) {P : Type 0} → Decides b P → Decides (alone t j b) (Alone t j P)
+  one : (b : Bool) {P : Type 0} → Decides b P → Decides (eqb j noSecond && b) (Alone t j P)
   one b d = decides-given _ b (decides-eqb j noSecond) (λ e. d)
 
-  two : (b : Bool) {P : Type 0} → (IsRow t j → Decides b P) → Decides (paired t j b) (Paired t j P)
+  two : (b : Bool) {P : Type 0} → (IsRow t j → Decides b P) → Decides (ltb j (length (t .rows)) && b) (Paired t j P)
   two b d = decides-given _ b (decides-ltb j (length (t .rows))) d
 
-  each : IsRow t i → EachDecides (tests t i j) (kinds t i j)
+  each : IsRow t i → EachDecides (tests t (eqb j noSecond) (ltb j (length (t .rows))) i j) (kinds t i j)
   each h =
       decides-false (λ k. k)
       ▹ one _ (rows.internalLoop-decides t w i)
@@ -69,4 +70,4 @@ module _ (t : Table) (w : Wellformed t) (i j : ℕ) where
   pub anomaly-decides : (kind : ℕ) → Decides (anomaly t i kind j) (Anomaly t i kind j)
   unfolding anomaly
   anomaly-decides kind =
-      decides-given _ _ (decides-ltb i (length (t .rows))) (λ h. each-at (tests t i j) (kinds t i j) (each h) kind)
+      decides-given _ _ (decides-ltb i (length (t .rows))) (λ h. each-at (tests t (eqb j noSecond) (ltb j (length (t .rows))) i j) (kinds t i j) (each h) kind)

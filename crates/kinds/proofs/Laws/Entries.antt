@@ -1,7 +1,7 @@
 -- The entries of a well-formed table are exactly its anomalies.
 -- Assumes nothing.
 use Prim.Native.Nat.{ℕ, zero, suc, _+_, _≤_, _<_}
-use mathlib.Core.Path.{_≡_, refl, sym, subst}
+use mathlib.Core.Path.{_≡_, refl, sym, ap, subst}
 use mathlib.Core.Bool.{Bool, true, false}
 use mathlib.Core.Logic.{_⊎_, _↔_, inl, inr}
 use mathlib.Core.List.{List, [], _∷_, _++_, List·Memᴰ, List·Memᴰ·head, List·Memᴰ·not-nil, List·Memᴰ·append-cases, Memᴰ·append-left, Memᴰ·append-right, List·Memᴰ·eq-of-singleton}
@@ -35,6 +35,21 @@ module _ (e : Entry) (f : ℕ → List Entry) where
     | inl h ↦ (k, omega arith, omega arith, h)
     | inr r ↦ let h = gather-of n (suc k) r in (h .0, omega (arith, h .1), omega (arith, h .2), h .3)
   ]
+
+-- the first list and the others, and lists that are the same place by place
+pub gather-next : (f : ℕ → List Entry) (n k : ℕ) → gather (suc n) k f ≡ f k ++ gather n (suc k) f
+unfolding gather
+gather-next f n k = refl
+
+pub gather-end : (f : ℕ → List Entry) (k : ℕ) → gather 0 k f ≡ []
+unfolding gather
+gather-end f k = refl
+
+pub gather-same : (f g : ℕ → List Entry) (n k : ℕ) → ((x : ℕ) → k ≤ x → x < k + n → f x ≡ g x) → gather n k f ≡ gather n k g
+unfolding gather
+gather-same f g zero k h = refl
+gather-same f g (suc n) k h =
+    rw (h k (omega arith) (omega arith)) (ap (λ (l : List Entry). g k ++ l) (gather-same f g n (suc k) (λ x a b. h x (omega arith) (omega arith))))
 
 -- ---- what an anomaly's numbers are
 
@@ -85,6 +100,10 @@ module _ (t : Table) where
 
   abbrev pub ofRow : ℕ → List Entry
   ofRow i = gather 20 1 (ofKind i)
+
+  pub entries-rows : entries t ≡ gather (length (t .rows)) 0 ofRow
+  unfolding entries
+  entries-rows = refl
 
   module _ (w : Wellformed t) (i kind j : ℕ) where
     listed-in : Anomaly t i kind j → List·Memᴰ (entry i kind j) (listed t i kind j)

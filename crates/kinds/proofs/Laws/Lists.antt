@@ -20,6 +20,14 @@ pub decides-given : (a b : Bool) {P Q : Type 0} → Decides a P → (P → Decid
 decides-given true b d e = decides-as (λ q. (d .yes refl, q)) (λ h. h .1) (e (d .yes refl))
 decides-given false b d e = decides-false (λ h. d .no refl (h .0))
 
+-- One test or another, as a first one says.
+pub decides-either : (c a b : Bool) {P Q R : Type 0} → Decides c P → Decides a Q → Decides b R
+    → Decides (elim c [ true ↦ a | false ↦ b ]) ((P × Q) ⊎ ((P → ⊥) × R))
+decides-either true a b d e f =
+    decides-as (λ q. inl (d .yes refl, q)) (λ s. elim s [ inl h ↦ h .1 | inr h ↦ absurd (h .0 (d .yes refl)) ]) e
+decides-either false a b d e f =
+    decides-as (λ r. inr (d .no refl, r)) (λ s. elim s [ inl h ↦ absurd (d .no refl (h .0)) | inr h ↦ h .1 ]) f
+
 -- Some number below n.
 abbrev pub Some : ℕ → (ℕ → Type 0) → Type 0
 Some n P = (k : ℕ) × (k < n) × P k

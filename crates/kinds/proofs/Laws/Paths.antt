@@ -1,25 +1,25 @@
 -- The test of an alternative path agrees with its meaning. In order: rows along which roots are visited, what follows from
 -- that, the chain search, the alternative path.
 -- Assumes nothing.
-use Prim.Native.Nat.{ℕ, zero, suc, _≤_, _<_}
+use Prim.Native.Nat.{ℕ, zero, suc, _+_, _≤_, _<_}
 use mathlib.Core.Path.{_≡_, refl, sym, ap, _∙_}
-use mathlib.Core.Bool.{_&&_, _||_}
+use mathlib.Core.Bool.{true, false, _&&_}
 use mathlib.Core.Logic.{_⊎_, inl, inr}
 use mathlib.Core.List.{List, [], _∷_, map, List·Memᴰ, List·Memᴰ·head, List·Memᴰ·tail, List·Memᴰ·not-nil, List·Memᴰ·cases-cons}
 use native.Mathlib.Omega.{arith}
-use lib.Dec.{eqb}
+use lib.Dec.{eqb, ltb}
 use lib.ListN.{length}
 use Rattle.policy.specs.Model.{Selector, Table, rowAt}
 use Rattle.policy.specs.Wellformed.{Wellformed}
 use Rattle.policy.proofs.Laws.Tables.{five-ranges}
 use Rattle.relations.specs.Decides.{Decides}
 use Rattle.relations.specs.Selectors.{Inhabited, MeetAll, meet}
-use Rattle.relations.proofs.Laws.Decides.{decides-as, decides-false, decides-and, decides-or, decides-not, decides-eqb}
+use Rattle.relations.proofs.Laws.Decides.{decides-as, decides-false, decides-and, decides-not, decides-eqb, decides-ltb}
 use Rattle.relations.proofs.Laws.Lists.{among-decides}
 use Rattle.relations.proofs.Laws.Selectors.{inhabited-decides, meet-length, meetAll-more, meetAll-less}
 use Rattle.kinds.specs.Kinds.{Twice, IsRow, sourceRoot, destinationRoot, Chains, AlternativePath}
 use Rattle.kinds.specs.Tests.{goesOn, chains, alternativePath}
-use Rattle.kinds.proofs.Laws.Lists.{Some, some-decides, twice-cons, twice-uncons, twice-none}
+use Rattle.kinds.proofs.Laws.Lists.{Some, some-decides, decides-either, twice-cons, twice-uncons, twice-none}
 
 module _ (t : Table) where
   -- The rows lead from the root a to the root b, each to a root that was not visited before.
@@ -93,37 +93,45 @@ module _ (t : Table) (w : Wellformed t) where
 
   -- ---- the chain search
 
+  abbrev selector-at : ℕ → Selector
+  selector-at j = rowAt t j .selector
+
   abbrev selectorsOf : List ℕ → List Selector
-  selectorsOf js = map (λ j. rowAt t j .selector) js
+  selectorsOf js = map selector-at js
 
   abbrev GoesOn : ℕ → ℕ → List ℕ → Selector → Type 0
   GoesOn j a visited s =
       (sourceRoot t j ≡ a) × ((List·Memᴰ (destinationRoot t j) visited → ⊥) × Inhabited (meet s (rowAt t j .selector)))
 
-  goesOn-decides : (j a : ℕ) (visited : List ℕ) (s : Selector) → Decides (goesOn t j a visited s) (GoesOn j a visited s)
+  goesOn-decides : (j a : ℕ) (visited : List ℕ) (s : Selector) → Decides (goesOn (sourceRoot t) (destinationRoot t) selector-at j a visited s) (GoesOn j a visited s)
   unfolding goesOn
   goesOn-decides j a visited s =
       decides-and _ _ (decides-eqb _ _) (decides-and _ _ (decides-not _ (among-decides _ _)) (inhabited-decides _))
 
-  -- One to n rows along which one packet of the selector lies.
+  -- One to n rows along which one packet of the selector lies; of four at least two.
   abbrev Reach : ℕ → ℕ → ℕ → List ℕ → Selector → Type 0
-  Reach n b a visited s = (js : List ℕ) × (0 < length js) × (length js ≤ n) × (Along t b a visited js × MeetAll s (selectorsOf js))
+  Reach n b a visited s =
+      (js : List ℕ) × (0 < length js) × (length js ≤ n) × (n < length js + 3) × (Along t b a visited js × MeetAll s (selectorsOf js))
 
   meets-first : (s : Selector) (j : ℕ) (js : List ℕ) → length (rowAt t j .selector) ≡ length s → MeetAll s (selectorsOf (j ∷ js)) → Inhabited (meet s (rowAt t j .selector))
   meets-first s j js same m = let h = meetAll-less s (rowAt t j .selector) (selectorsOf js) same m in (h .0, h .1)
 
-  chains-decides : (n b a : ℕ) (visited : List ℕ) (s : Selector) → length s ≡ 5 → Decides (chains t n b a visited s) (Reach n b a visited s)
+  chains-decides : (n b a : ℕ) (visited : List ℕ) (s : Selector) → length s ≡ 5
+      → Decides (chains (sourceRoot t) (destinationRoot t) selector-at (length (t .rows)) n b a visited s) (Reach n b a visited s)
   unfolding chains
   chains-decides zero b a visited s five-fields = decides-false (λ h. let m = h .1 in let k = h .2 in absurd (omega arith))
   chains-decides (suc n) b a visited s five-fields =
-      decides-as join (λ h. split (h .0) (h .1) (h .2) (h .3 .0) (h .3 .1))
+      decides-as join (λ h. split (h .0) (h .1) (h .2) (h .3) (h .4 .0) (h .4 .1))
       (some-decides (length (t .rows))
       (λ j.
-      goesOn t j a visited s
-      && (eqb (destinationRoot t j) b || chains t n b (destinationRoot t j) (destinationRoot t j ∷ visited) (meet s (rowAt t j .selector))))
+      goesOn (sourceRoot t) (destinationRoot t) selector-at j a visited s
+      && elim (eqb (destinationRoot t j) b) [
+        | true ↦ ltb n 3
+        | false ↦ chains (sourceRoot t) (destinationRoot t) selector-at (length (t .rows)) n b (destinationRoot t j) (destinationRoot t j ∷ visited) (meet s (rowAt t j .selector))
+      ])
       (λ j h.
       decides-and _ _ (goesOn-decides j a visited s)
-      (decides-or _ _ (decides-eqb _ _)
+      (decides-either _ _ _ (decides-eqb _ _) (decides-ltb n 3)
       (chains-decides n b (destinationRoot t j) (destinationRoot t j ∷ visited) (meet s (rowAt t j .selector))
       (meet-length s (rowAt t j .selector) (same j h) ∙ five-fields)))))
     where
@@ -133,37 +141,49 @@ module _ (t : Table) (w : Wellformed t) where
       First : ℕ → Type 0
       First j =
           GoesOn j a visited s
-          × ((destinationRoot t j ≡ b) ⊎ Reach n b (destinationRoot t j) (destinationRoot t j ∷ visited) (meet s (rowAt t j .selector)))
+          × (((destinationRoot t j ≡ b) × (n < 3))
+          ⊎ ((destinationRoot t j ≡ b → ⊥) × Reach n b (destinationRoot t j) (destinationRoot t j ∷ visited) (meet s (rowAt t j .selector))))
 
       join : Some (length (t .rows)) First → Reach (suc n) b a visited s
       join (j, h, (g, inl e)) = (
         j ∷ [],
         omega arith,
         omega arith,
+        omega (arith, e .1),
         (
-          (h, (g .0, (g .1 .0, e))),
+          (h, (g .0, (g .1 .0, e .0))),
           meetAll-more s (rowAt t j .selector) [] (same j h) (g .1 .1 .0, g .1 .1 .1, λ q m. absurd (List·Memᴰ·not-nil m)),
         ),
       )
-      join (j, h, (g, inr r)) = (
+      join (j, h, (g, inr (ne, r))) = (
         j ∷ r .0,
         omega arith,
         omega (arith, r .2),
+        omega (arith, r .3),
         (
-          (h, (g .0, (g .1 .0, r .3 .0))),
-          meetAll-more s (rowAt t j .selector) (selectorsOf (r .0)) (same j h) (r .3 .1),
+          (h, (g .0, (g .1 .0, r .4 .0))),
+          meetAll-more s (rowAt t j .selector) (selectorsOf (r .0)) (same j h) (r .4 .1),
         ),
       )
 
-      split : (js : List ℕ) → 0 < length js → length js ≤ suc n → Along t b a visited js → MeetAll s (selectorsOf js) → Some (length (t .rows)) First
-      split [] m k al p = absurd (omega arith)
-      split (j ∷ []) m k al p = (j, al .0, ((al .1 .0, (al .1 .1 .0, meets-first s j [] (same j (al .0)) p)), inl (al .1 .1 .1)))
-      split (j ∷ l ∷ js) m k al p = (
+      split : (js : List ℕ) → 0 < length js → length js ≤ suc n → suc n < length js + 3 → Along t b a visited js → MeetAll s (selectorsOf js) → Some (length (t .rows)) First
+      split [] m k l al p = absurd (omega arith)
+      split (j ∷ []) m k l al p = (j, al .0, ((al .1 .0, (al .1 .1 .0, meets-first s j [] (same j (al .0)) p)), inl (al .1 .1 .1, omega arith)))
+      split (j ∷ i ∷ js) m k l al p = (
         j,
         al .0,
         (
-          (al .1 .0, (al .1 .1 .0, meets-first s j (l ∷ js) (same j (al .0)) p)),
-          inr (l ∷ js, omega arith, omega arith, (al .1 .1 .1, meetAll-less s (rowAt t j .selector) (selectorsOf (l ∷ js)) (same j (al .0)) p)),
+          (al .1 .0, (al .1 .1 .0, meets-first s j (i ∷ js) (same j (al .0)) p)),
+          inr (
+            (λ e. end-fresh t b (destinationRoot t j) (destinationRoot t j ∷ visited) (i ∷ js) (al .1 .1 .1) (omega arith) (List·Memᴰ·head (sym e))),
+            (
+              i ∷ js,
+              omega arith,
+              omega arith,
+              omega arith,
+              (al .1 .1 .1, meetAll-less s (rowAt t j .selector) (selectorsOf (i ∷ js)) (same j (al .0)) p),
+            ),
+          ),
         ),
       )
 
@@ -176,83 +196,54 @@ module _ (t : Table) (w : Wellformed t) where
     abbrev to : ℕ
     to = destinationRoot t i
 
-    abbrev s : Selector
-    s = rowAt t i .selector
-
-    same : (j : ℕ) → IsRow t j → length (rowAt t j .selector) ≡ length s
-    same j h = five j h ∙ sym (five i hi)
-
-    abbrev First : ℕ → Type 0
-    First j =
-        GoesOn j from (to ∷ from ∷ []) s × Reach 3 to (destinationRoot t j) (destinationRoot t j ∷ from ∷ []) (meet s (rowAt t j .selector))
-
     -- none of the rows is i, since it would begin or end where it may not
-    not-own : (j : ℕ) (js : List ℕ) → GoesOn j from (to ∷ from ∷ []) s → Along t to (destinationRoot t j) (destinationRoot t j ∷ from ∷ []) js
-        → List·Memᴰ i (j ∷ js) → ⊥
-    not-own j js g al m = elim (List·Memᴰ·cases-cons m) [
-      | inl e ↦ g .1 .0 (List·Memᴰ·head (ap (destinationRoot t) (sym e)))
-      | inr k ↦ elim (source-fresh t to (destinationRoot t j) (destinationRoot t j ∷ from ∷ []) js al i k) [
-        | inl e ↦ g .1 .0 (List·Memᴰ·tail (List·Memᴰ·head (sym e)))
-        | inr f ↦ f (List·Memᴰ·tail (List·Memᴰ·head refl))
-      ]
-    ]
+    not-own : (js : List ℕ) → 2 ≤ length js → Along t to from (from ∷ []) js → List·Memᴰ i js → ⊥
+    not-own [] n al m = absurd (omega arith)
+    not-own (j ∷ []) n al m = absurd (omega arith)
+    not-own (j ∷ k ∷ js) n al m =
+        let rest = al .1 .1 .1 in
+        elim (List·Memᴰ·cases-cons m) [
+          | inl e ↦
+              end-fresh t to (destinationRoot t j) (destinationRoot t j ∷ from ∷ []) (k ∷ js) rest (omega arith) (List·Memᴰ·head (ap (destinationRoot t) e))
+          | inr l ↦ elim (source-fresh t to (destinationRoot t j) (destinationRoot t j ∷ from ∷ []) (k ∷ js) rest i l) [
+            | inl e ↦ al .1 .1 .0 (List·Memᴰ·head (sym e))
+            | inr f ↦ f (List·Memᴰ·tail (List·Memᴰ·head refl))
+          ]
+        ]
 
-    join : Some (length (t .rows)) First → AlternativePath t i
-    join (j, h, (g, r)) =
-        let whole : Along t to from (from ∷ []) (j ∷ r .0) = (h, (g .0, (λ v. g .1 .0 (List·Memᴰ·tail v), r .3 .0))) in
+    join : Reach 4 to from (from ∷ []) (rowAt t i .selector) → AlternativePath t i
+    join (js, one, four, two, (al, p)) =
         record {
-          rows = j ∷ r .0;
-          two = omega (arith, r .1);
-          four = omega (arith, r .2);
-          other = not-own j (r .0) g (r .3 .0);
-          chain = along-chains t to from (from ∷ []) (j ∷ r .0) whole;
-          visited = λ v. elim (twice-uncons from (map (destinationRoot t) (j ∷ r .0)) v) [
-            | inl m ↦ along-fresh t to from (from ∷ []) (j ∷ r .0) whole from m (List·Memᴰ·head refl)
-            | inr k ↦ along-once t to from (from ∷ []) (j ∷ r .0) whole k
+          rows = js;
+          two = omega arith;
+          four = four;
+          other = not-own js (omega arith) al;
+          chain = along-chains t to from (from ∷ []) js al;
+          visited = λ v. elim (twice-uncons from (map (destinationRoot t) js) v) [
+            | inl m ↦ along-fresh t to from (from ∷ []) js al from m (List·Memᴰ·head refl)
+            | inr k ↦ along-once t to from (from ∷ []) js al k
           ];
-          packet = meetAll-more s (rowAt t j .selector) (selectorsOf (r .0)) (same j h) (r .3 .1);
-          no-loop = λ e. end-fresh t to from (from ∷ []) (j ∷ r .0) whole (omega arith) (List·Memᴰ·head (sym e));
+          packet = p;
+          no-loop = λ e. end-fresh t to from (from ∷ []) js al one (List·Memᴰ·head (sym e));
         }
 
-    split : (js : List ℕ) → 2 ≤ length js → length js ≤ 4 → Chains t from js to → (Twice (from ∷ map (destinationRoot t) js) → ⊥)
-        → MeetAll s (selectorsOf js) → Some (length (t .rows)) First
-    split [] two four c v p = absurd (omega arith)
-    split (j ∷ []) two four c v p = absurd (omega arith)
-    split (j ∷ l ∷ js) two four c v p =
-        let whole : Along t to from (from ∷ []) (j ∷ l ∷ js) =
-        chains-along t to from (from ∷ []) (j ∷ l ∷ js) c
-        (λ e m n. elim (List·Memᴰ·cases-cons n) [
-          | inl q ↦ v (twice-cons from (map (destinationRoot t) (j ∷ l ∷ js)) (inl (rw q at m)))
-          | inr k ↦ List·Memᴰ·not-nil k
-        ])
-        (λ k. v (twice-cons from (map (destinationRoot t) (j ∷ l ∷ js)) (inr k))) in
-        let rest = whole .1 .1 .1 in (
-          j,
-          whole .0,
-          (
-            (
-              whole .1 .0,
-              (
-                (λ m. elim (List·Memᴰ·cases-cons m) [
-                  | inl q ↦ end-fresh t to (destinationRoot t j) (destinationRoot t j ∷ from ∷ []) (l ∷ js) rest (omega arith) (List·Memᴰ·head (sym q))
-                  | inr n ↦ whole .1 .1 .0 n
-                ]),
-                meets-first s j (l ∷ js) (same j (whole .0)) p,
-              ),
-            ),
-            (l ∷ js, omega arith, omega arith, (rest, meetAll-less s (rowAt t j .selector) (selectorsOf (l ∷ js)) (same j (whole .0)) p)),
-          ),
-        )
+    split : AlternativePath t i → Reach 4 to from (from ∷ []) (rowAt t i .selector)
+    split e = (
+      e .rows,
+      omega (arith, e .two),
+      e .four,
+      omega (arith, e .two),
+      (
+        chains-along t to from (from ∷ []) (e .rows) (e .chain)
+            (λ r m n. elim (List·Memᴰ·cases-cons n) [
+              | inl q ↦ e .visited (twice-cons from (map (destinationRoot t) (e .rows)) (inl (rw q at m)))
+              | inr k ↦ List·Memᴰ·not-nil k
+            ])
+            (λ k. e .visited (twice-cons from (map (destinationRoot t) (e .rows)) (inr k))),
+        e .packet,
+      ),
+    )
 
-    pub alternativePath-decides : Decides (alternativePath t i) (AlternativePath t i)
+    pub alternativePath-decides : Decides (alternativePath (sourceRoot t) (destinationRoot t) selector-at (length (t .rows)) i) (AlternativePath t i)
     unfolding alternativePath
-    alternativePath-decides =
-        decides-as join (λ e. split (e .rows) (e .two) (e .four) (e .chain) (e .visited) (e .packet))
-        (some-decides (length (t .rows))
-        (λ j.
-        goesOn t j from (to ∷ from ∷ []) s
-        && chains t 3 to (destinationRoot t j) (destinationRoot t j ∷ from ∷ []) (meet s (rowAt t j .selector)))
-        (λ j h.
-        decides-and _ _ (goesOn-decides j from (to ∷ from ∷ []) s)
-        (chains-decides 3 to (destinationRoot t j) (destinationRoot t j ∷ from ∷ []) (meet s (rowAt t j .selector))
-        (meet-length s (rowAt t j .selector) (same j h) ∙ five i hi))))
+    alternativePath-decides = decides-as join split (chains-decides 4 to from (from ∷ []) (rowAt t i .selector) (five i hi))

@@ -6,8 +6,9 @@ use mathlib.Core.Bool.{not, _&&_}
 use mathlib.Core.Logic.{_⊎_, inl, inr}
 use mathlib.Core.List.{List, [], _∷_, List·Memᴰ}
 use native.Mathlib.Omega.{arith}
+use lib.Dec.{eqb}
 use lib.ListN.{length, getD}
-use Rattle.policy.specs.Model.{Filter, Table, noFilter, rowAt}
+use Rattle.policy.specs.Model.{Filter, Table, noFilter, entityAt, rowAt}
 use Rattle.policy.specs.Wellformed.{Wellformed}
 use Rattle.relations.specs.Decides.{Decides}
 use Rattle.relations.specs.Coefficients.{AtLeast}
@@ -20,8 +21,9 @@ use Rattle.relations.proofs.Laws.Selectors.{contains-decides, sameSelector-deci
 use Rattle.search.specs.Search.{Answer, found, none}
 use Rattle.verdicts.specs.Verdicts.{verdictOn}
 use Rattle.verdicts.proofs.Laws.Verdicts.{verdicts}
-use Rattle.kinds.specs.Kinds.{IsRow, InternalLoop, OutOfPlace, Lacks, NonEnforceable, Inadequate, Rides, Superfluous, Filtered, LayerTwo, Answers, Asymmetric, Cyclic}
-use Rattle.kinds.specs.Tests.{empty, isNone, internalLoop, outOfPlace, lacks, nonEnforceable, inadequate, rides, strictlyStronger, superfluous, filters, filtered, layerTwo, answers, asymmetric, cyclic, dead}
+use Rattle.kinds.specs.Kinds.{IsRow, sourceRoot, destinationRoot, InternalLoop, OutOfPlace, Lacks, NonEnforceable, Inadequate, Rides, Superfluous, Filtered, LayerTwo, Answers, Asymmetric, Cyclic}
+use Rattle.kinds.specs.Views.{placedAt}
+use Rattle.kinds.specs.Tests.{empty, isNone, internalLoop, outOfPlace, lacks, nonEnforceable, inadequate, rides, strictlyStronger, superfluous, filtered, layerTwo, answers, asymmetric, cyclic, dead}
 use Rattle.kinds.proofs.Laws.Lists.{Some, some-decides, inOrder-decides, twice-decides}
 use Rattle.kinds.proofs.Laws.Pairs.{selector-ordered}
 
@@ -34,30 +36,28 @@ isNone-decides none = decides-true refl
 isNone-decides (found p) = decides-false (λ e. let z : _≡_ {A = ℕ} 0 1 = cc in omega arith)
 
 module _ (t : Table) (w : Wellformed t) where
-  pub internalLoop-decides : (i : ℕ) → Decides (internalLoop t i) (InternalLoop t i)
-  unfolding internalLoop
+  pub internalLoop-decides : (i : ℕ) → Decides (internalLoop (placedAt t i)) (InternalLoop t i)
   internalLoop-decides i = decides-eqb _ _
 
-  pub outOfPlace-decides : (i : ℕ) → Decides (outOfPlace t i) (OutOfPlace t i)
-  unfolding outOfPlace
+  pub outOfPlace-decides : (i : ℕ) → Decides (outOfPlace (placedAt t i)) (OutOfPlace t i)
   outOfPlace-decides i = decides-not _ (decides-eqb _ _)
 
-  lacks-decides : (root u : ℕ) → Decides (lacks t root u) (Lacks t root u)
+  lacks-decides : (root u : ℕ) → Decides (lacks (entityAt t root .mask) u) (Lacks t root u)
   unfolding lacks
   lacks-decides root u = decides-eqb _ _
 
-  pub nonEnforceable-decides : (i : ℕ) → Decides (nonEnforceable t i) (NonEnforceable t i)
+  pub nonEnforceable-decides : (i : ℕ)
+      → Decides (nonEnforceable (entityAt t (sourceRoot t i) .mask) (entityAt t (destinationRoot t i) .mask) (t .caps) (rowAt t i)) (NonEnforceable t i)
   unfolding nonEnforceable
   nonEnforceable-decides i =
       decides-as (λ e. record { not-null = e .0; why = e .1 }) (λ e. (e .not-null, e .why))
       (decides-and _ _ (decides-not _ (decides-eqb _ _))
       (decides-or _ _ (lacks-decides _ _) (decides-or _ _ (lacks-decides _ _) (decides-not _ (atLeast-decides _ _)))))
 
-  pub inadequate-decides : (i : ℕ) → Decides (inadequate t i) (Inadequate t i)
-  unfolding inadequate
+  pub inadequate-decides : (i : ℕ) → Decides (inadequate (t .floor) (rowAt t i)) (Inadequate t i)
   inadequate-decides i = decides-not _ (atLeast-decides _ _)
 
-  rides-decides : (j i : ℕ) → IsRow t j → Decides (rides t j i) (Rides t j i)
+  rides-decides : (j i : ℕ) → IsRow t j → Decides (not (eqb j i) && rides (placedAt t j) (placedAt t i)) (Rides t j i)
   unfolding rides
   rides-decides j i h =
       decides-as (λ e. record { row = h; other = e .0; gateways = e .1 .0; selector = e .1 .1 }) (λ e. (e .other, (e .gateways, e .selector)))
@@ -67,11 +67,11 @@ module _ (t : Table) (w : Wellformed t) where
   abbrev StrictlyStronger : ℕ → ℕ → Type 0
   StrictlyStronger j i = AtLeast (rowAt t j .coefficients) (rowAt t i .coefficients) × (rowAt t j .coefficients ≡ rowAt t i .coefficients → ⊥)
 
-  strictlyStronger-decides : (j i : ℕ) → Decides (strictlyStronger t j i) (StrictlyStronger j i)
+  strictlyStronger-decides : (j i : ℕ) → Decides (strictlyStronger (rowAt t j .coefficients) (rowAt t i .coefficients)) (StrictlyStronger j i)
   unfolding strictlyStronger
   strictlyStronger-decides j i = decides-and _ _ (atLeast-decides _ _) (decides-not _ (same-decides _ _))
 
-  pub superfluous-decides : (i : ℕ) → Decides (superfluous t i) (Superfluous t i)
+  pub superfluous-decides : (i : ℕ) → Decides (superfluous (placedAt t) (length (t .rows)) i) (Superfluous t i)
   unfolding superfluous
   superfluous-decides i =
       decides-as
@@ -79,13 +79,13 @@ module _ (t : Table) (w : Wellformed t) where
       record { rider = e .0 .0; rides = e .0 .2; stronger = λ j r. every (e .1) j r .0; different = λ j r. every (e .1) j r .1 })
       (λ e. ((e .rider, e .rides .row, e .rides), λ s. s .2 .1 (e .stronger (s .0) (s .2 .0), e .different (s .0) (s .2 .0))))
       (decides-and _ _
-      (some-decides (length (t .rows)) (λ j. rides t j i) (λ j h. rides-decides j i h))
+      (some-decides (length (t .rows)) (λ j. not (eqb j i) && rides (placedAt t j) (placedAt t i)) (λ j h. rides-decides j i h))
       (decides-not _
-      (some-decides (length (t .rows)) (λ j. rides t j i && not (strictlyStronger t j i))
+      (some-decides (length (t .rows)) (λ j. (not (eqb j i) && rides (placedAt t j) (placedAt t i)) && not (strictlyStronger (rowAt t j .coefficients) (rowAt t i .coefficients)))
       (λ j h. decides-and _ _ (rides-decides j i h) (decides-not _ (strictlyStronger-decides j i))))))
     where
       every : (Some (length (t .rows)) (λ j. Rides t j i × (StrictlyStronger j i → ⊥)) → ⊥) → (j : ℕ) → Rides t j i → StrictlyStronger j i
-      every n j r = elim (decided (strictlyStronger t j i) (strictlyStronger-decides j i)) [
+      every n j r = elim (decided (strictlyStronger (rowAt t j .coefficients) (rowAt t i .coefficients)) (strictlyStronger-decides j i)) [
         | inl h ↦ h
         | inr s ↦ absurd (n (j, r .row, (r, s)))
       ]
@@ -96,16 +96,16 @@ module _ (t : Table) (w : Wellformed t) where
       (k : ℕ) × (k < length fs)
       × (List·Memᴰ (getD fs k noFilter .root) (rowAt t i .gateways) × Contains (getD fs k noFilter .selector) (rowAt t i .selector))
 
-  filters-decides : (i : ℕ) → IsRow t i → (fs : List Filter) → Decides (filters t i fs) (FilteredBy i fs)
-  unfolding filters
-  filters-decides i h [] = decides-false (λ e. let b = e .1 in absurd (omega arith))
-  filters-decides i h (f ∷ fs) =
+  filtered-by : (i : ℕ) → IsRow t i → (fs : List Filter) → Decides (filtered fs (rowAt t i)) (FilteredBy i fs)
+  unfolding filtered
+  filtered-by i h [] = decides-false (λ e. let b = e .1 in absurd (omega arith))
+  filtered-by i h (f ∷ fs) =
       decides-as
       (λ s. elim s [ inl e ↦ (0, omega arith, e) | inr e ↦ (suc (e .0), omega (arith, e .1), e .2) ])
       (λ e. split (e .0) (e .1) (e .2))
       (decides-or _ _
       (decides-and _ _ (among-decides (f .root) (rowAt t i .gateways)) (contains-decides (f .selector) (rowAt t i .selector) (selector-ordered t w i h)))
-      (filters-decides i h fs))
+      (filtered-by i h fs))
     where
       split : (k : ℕ) → k < length (f ∷ fs)
           → List·Memᴰ (getD (f ∷ fs) k noFilter .root) (rowAt t i .gateways) × Contains (getD (f ∷ fs) k noFilter .selector) (rowAt t i .selector)
@@ -113,20 +113,19 @@ module _ (t : Table) (w : Wellformed t) where
       split zero b e = inl e
       split (suc k) b e = inr (k, omega arith, e)
 
-  pub filtered-decides : (i : ℕ) → IsRow t i → Decides (filtered t i) (Filtered t i)
-  unfolding filtered
+  pub filtered-decides : (i : ℕ) → IsRow t i → Decides (filtered (t .filters) (rowAt t i)) (Filtered t i)
   filtered-decides i h =
       decides-as (λ e. record { filter = e .0; there = e .1; gateway = e .2 .0; contains = e .2 .1 })
       (λ e. (e .filter, e .there, (e .gateway, e .contains)))
-      (filters-decides i h (t .filters))
+      (filtered-by i h (t .filters))
 
-  pub layerTwo-decides : (i : ℕ) → Decides (layerTwo t i) (LayerTwo t i)
+  pub layerTwo-decides : (i : ℕ) → Decides (layerTwo (rowAt t i)) (LayerTwo t i)
   unfolding layerTwo
   layerTwo-decides i =
       decides-as (λ e. record { layer = e .0; gateways = e .1 }) (λ e. (e .layer, e .gateways))
       (decides-and _ _ (decides-eqb _ 2) (decides-not _ (empty-decides (rowAt t i .gateways))))
 
-  answers-decides : (j i : ℕ) → IsRow t j → Decides (answers t j i) (Answers t j i)
+  answers-decides : (j i : ℕ) → IsRow t j → Decides (answers (rowAt t j) (rowAt t i)) (Answers t j i)
   unfolding answers
   answers-decides j i h =
       decides-as
@@ -135,18 +134,17 @@ module _ (t : Table) (w : Wellformed t) where
       (decides-and _ _ (decides-eqb _ _)
       (decides-and _ _ (decides-eqb _ _) (decides-and _ _ (same-decides _ _) (sameSelector-decides _ _))))
 
-  pub asymmetric-decides : (i : ℕ) → Decides (asymmetric t i) (Asymmetric t i)
+  pub asymmetric-decides : (i : ℕ) → Decides (asymmetric (rowAt t) (length (t .rows)) i) (Asymmetric t i)
   unfolding asymmetric
   asymmetric-decides i =
       decides-as (λ e j a. e (j, a .row, a)) (λ e s. e (s .0) (s .2))
-      (decides-not _ (some-decides (length (t .rows)) (λ j. answers t j i) (λ j h. answers-decides j i h)))
+      (decides-not _ (some-decides (length (t .rows)) (λ j. answers (rowAt t j) (rowAt t i)) (λ j h. answers-decides j i h)))
 
-  pub cyclic-decides : (i : ℕ) → Decides (cyclic t i) (Cyclic t i)
+  pub cyclic-decides : (i : ℕ) → Decides (cyclic (placedAt t i)) (Cyclic t i)
   unfolding cyclic
   cyclic-decides i = twice-decides _
 
   pub dead-decides : (i : ℕ) → IsRow t i → Decides (dead t i) (Dead t i)
-  unfolding dead
   dead-decides i h =
       let v = verdicts t w i h .dead in
       decides-as (v .0) (v .1) (isNone-decides (verdictOn t i))

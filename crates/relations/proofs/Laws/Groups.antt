@@ -183,6 +183,32 @@ module _ (t : Table) (g a b : ℕ) (p : Packet) where
           answered (winner t g a b p) Nobody (right (parentOf t) (rowAt t g) a b p (t .rows))
           (λ j l. decides-fails (claims (rowAt t j)) (decided-claim j) (λ c. h j l (c .0) (c .1)))
 
+-- A group that is named by any row, of this table or not: who wins in it, and where nobody does no row of it matches.
+module _ (t : Table) (g : Row) (a b : ℕ) (p : Packet) where
+  right-group : Right (candidate (parentOf t) g a b p) (t .rows) (winnerFrom (parentOf t) g a b p 0 (t .rows))
+  right-group = right (parentOf t) g a b p (t .rows)
+
+  decided-group : (i : ℕ) → Decides (candidate (parentOf t) g a b p (rowAt t i)) (SameGroup (rowAt t i) g × Matches (parentOf t) (rowAt t i) a b p)
+  decided-group i = candidate-decides (parentOf t) g a b p (rowAt t i)
+
+  pub group-wins : (i : ℕ) → winnerFrom (parentOf t) g a b p 0 (t .rows) ≡ Won i → SameGroup (rowAt t i) g × Wins t i a b p
+  group-wins i e =
+      let r : Right (candidate (parentOf t) g a b p) (t .rows) (Won i) = rw e at right-group in
+      let c = decided-group i .yes (r .1) in (
+        c .0,
+        record {
+          row = r .0;
+          matches = c .1;
+          first = λ j l s m. decided-group j .no (r .2 j l) (group-trans s (c .0), m);
+        },
+      )
+
+  pub group-nobody : winnerFrom (parentOf t) g a b p 0 (t .rows) ≡ Nobody
+      → (i : ℕ) → i < length (t .rows) → SameGroup (rowAt t i) g → Matches (parentOf t) (rowAt t i) a b p → ⊥
+  group-nobody e i l s m =
+      let r : Right (candidate (parentOf t) g a b p) (t .rows) Nobody = rw e at right-group in
+      decided-group i .no (r i l) (s, m)
+
 -- Whichever row of the group names it, the winner is the same.
 pub winner-named : (t : Table) (g h a b : ℕ) (p : Packet) → SameGroup (rowAt t g) (rowAt t h) → winner t g a b p ≡ winner t h a b p
 winner-named t g h a b p s = go (winner t g a b p) refl

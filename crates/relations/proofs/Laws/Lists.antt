@@ -1,11 +1,11 @@
--- Laws of tests on lists of numbers: being among them; being the same list, also one element at a time; the first of a list,
+-- Laws of tests on lists of numbers: being among them, and being the same list, both also one element at a time; the first of a list,
 -- as many as there are.
 -- Assumes nothing.
-use mathlib.Core.Path.{_≡_, refl, ap}
+use mathlib.Core.Path.{_≡_, refl, ap, sym}
 use mathlib.Core.Logic.{inl, inr}
-use mathlib.Core.List.{List, [], _∷_, List·Memᴰ, List·Memᴰ·head, List·Memᴰ·tail, List·Memᴰ·not-nil, List·Memᴰ·cases-cons}
+use mathlib.Core.List.{List, [], _∷_, _++_, List·Memᴰ, List·Memᴰ·head, List·Memᴰ·tail, List·Memᴰ·not-nil, List·Memᴰ·cases-cons}
 use Prim.Native.Nat.{ℕ, zero, suc, _+_, _≤_, _<_}
-use mathlib.Core.Bool.{true, false}
+use mathlib.Core.Bool.{true, false, _||_, or-false, or-assoc}
 use native.Mathlib.Numerals.{add-one}
 use native.Mathlib.Omega.{arith}
 use lib.Dec.{eqb}
@@ -22,6 +22,30 @@ among-decides x [] = decides-false List·Memᴰ·not-nil
 among-decides x (y ∷ ys) =
     decides-as (λ s. elim s [ inl e ↦ List·Memᴰ·head e | inr m ↦ List·Memᴰ·tail m ]) List·Memᴰ·cases-cons
     (decides-or (eqb x y) (among x ys) (decides-eqb x y) (among-decides x ys))
+
+pub among-cons : (x y : ℕ) (ys : List ℕ) → among x (y ∷ ys) ≡ (eqb x y || among x ys)
+unfolding among
+among-cons x y ys = refl
+
+-- What is left of a list from k on: it is there, one element more, nothing left.
+module _ (x : ℕ) (xs : List ℕ) (k : ℕ) where
+  pub among-here : k < length xs → getD xs k 0 ≡ x → among x (drop k xs) ≡ true
+  unfolding among
+  among-here a e = rw (drop-cons xs k 0 a, e, eq-eqb x x refl)
+
+  pub among-next : k < length xs → (getD xs k 0 ≡ x → ⊥) → among x (drop k xs) ≡ among x (drop (k + 1) xs)
+  unfolding among
+  among-next a n = rw (add-one k, drop-cons xs k 0 a, ne-eqb x (getD xs k 0) (λ e. n (sym e)))
+
+  pub among-end : length xs ≤ k → among x (drop k xs) ≡ false
+  unfolding among
+  among-end a = rw (drop-of-length-le xs {i = k} a)
+
+-- A list with one more at its end.
+pub among-last : (x : ℕ) (xs : List ℕ) (y : ℕ) → among x (xs ++ (y ∷ [])) ≡ (among x xs || eqb x y)
+unfolding among
+among-last x [] y = or-false (eqb x y)
+among-last x (z ∷ xs) y = rw (among-last x xs y) (sym (or-assoc (eqb x z) (among x xs) (eqb x y)))
 
 pub same-decides : (xs ys : List ℕ) → Decides (same xs ys) (xs ≡ ys)
 unfolding same

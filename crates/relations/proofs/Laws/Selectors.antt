@@ -1,5 +1,5 @@
 -- Laws of selectors, for any number of fields. Each test is true exactly when the meaning holds: a packet in a selector, ⪰,
--- overlap, some packet in a selector, several selectors that meet, the same selector. And source and destination exchanged.
+-- overlap, some packet in a selector, several selectors that meet, the same selector. ⪰ both ways. And source and destination exchanged.
 -- Assumes nothing.
 use mathlib.Core.Path.{_≡_, refl, sym, ap, _∙_}
 use mathlib.Core.Logic.{_↔_, inl, inr}
@@ -76,13 +76,23 @@ lows-in (r ∷ s) o = (record { low = omega arith; high = o .0 }, lows-in s (o .
 
 -- ---- ⪰
 
+-- Field by field.
+contains-fields : (r q : Range) (s1 s2 : Selector) → Ordered (q ∷ s2) → Contains (r ∷ s1) (q ∷ s2)
+    → ((r .low ≤ q .low) × (q .high ≤ r .high)) × Contains s1 s2
+unfolding Holds
+contains-fields r q s1 s2 o c =
+    let b = lows-in s2 (o .1) in
+    let l = c (q .low ∷ lows s2) (record { low = omega arith; high = o .0 }, b) in
+    let k = c (q .high ∷ lows s2) (record { low = o .0; high = omega arith }, b) in
+    ((l .0 .low, k .0 .high), λ p m. c (q .low ∷ p) (record { low = omega arith; high = o .0 }, m) .1)
+
 pub contains-decides : (s1 s2 : Selector) → Ordered s2 → Decides (contains s1 s2) (Contains s1 s2)
 unfolding contains Holds
 contains-decides [] [] o = decides-true (λ p h. h)
 contains-decides [] (q ∷ s2) o = decides-false {P = Contains [] (q ∷ s2)} (λ c. c (lows (q ∷ s2)) (lows-in (q ∷ s2) o))
 contains-decides (r ∷ s1) [] o = decides-false {P = Contains (r ∷ s1) []} (λ c. c [] tt)
 contains-decides (r ∷ s1) (q ∷ s2) o =
-    decides-as more less
+    decides-as more (contains-fields r q s1 s2 o)
     (decides-and (containsRange r q) (contains s1 s2)
     (decides-and (leb (r .low) (q .low)) (leb (q .high) (r .high)) (decides-leb (r .low) (q .low)) (decides-leb (q .high) (r .high)))
     (contains-decides s1 s2 (o .1)))
@@ -95,12 +105,19 @@ contains-decides (r ∷ s1) (q ∷ s2) o =
         let w = m .0 in
         (record { low = omega arith; high = omega arith }, h .1 p (m .1))
 
-    less : Contains (r ∷ s1) (q ∷ s2) → ((r .low ≤ q .low) × (q .high ≤ r .high)) × Contains s1 s2
-    less c =
-        let b = lows-in s2 (o .1) in
-        let l = c (q .low ∷ lows s2) (record { low = omega arith; high = o .0 }, b) in
-        let k = c (q .high ∷ lows s2) (record { low = o .0; high = omega arith }, b) in
-        ((l .0 .low, k .0 .high), λ p m. c (q .low ∷ p) (record { low = omega arith; high = o .0 }, m) .1)
+-- Both ways: the same selector.
+pub contains-antisym : (s1 s2 : Selector) → Ordered s1 → Ordered s2 → Contains s1 s2 → Contains s2 s1 → s1 ≡ s2
+unfolding Holds
+contains-antisym [] [] o1 o2 c d = refl
+contains-antisym [] (q ∷ s2) o1 o2 c d = absurd (c (lows (q ∷ s2)) (lows-in (q ∷ s2) o2))
+contains-antisym (r ∷ s1) [] o1 o2 c d = absurd (d (lows (r ∷ s1)) (lows-in (r ∷ s1) o1))
+contains-antisym (r ∷ s1) (q ∷ s2) o1 o2 c d =
+    let a = contains-fields r q s1 s2 o2 c in
+    let b = contains-fields q r s2 s1 o1 d in
+    let l : r .low ≡ q .low = omega (arith, a .0 .0, b .0 .0) in
+    let h : r .high ≡ q .high = omega (arith, a .0 .1, b .0 .1) in
+    let e = contains-antisym s1 s2 (o1 .1) (o2 .1) (a .1) (b .1) in
+    λ i. record { low = l i; high = h i } ∷ e i
 
 -- ---- overlap
 

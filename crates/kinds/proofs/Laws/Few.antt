@@ -1,0 +1,235 @@
+-- At most 12,800 entries: at most three for each ordered pair of different rows, and eleven for each row alone, 64 · 63 · 3 + 64 · 11.
+-- Assumes nothing.
+use Prim.Native.Nat.{ℕ, zero, suc, _+_, _*_, _≤_, _<_}
+use mathlib.Core.Path.{_≡_, refl, sym, ap, _∙_}
+use mathlib.Core.Bool.{Bool, true, false}
+use mathlib.Core.Logic.{inl, inr}
+use mathlib.Core.List.{List, [], _∷_}
+use native.Mathlib.Omega.{arith}
+use lib.Dec.{eqb, ltb}
+use lib.ListN.{length, length-append}
+use Rattle.hex.specs.Digits.{pick}
+use Rattle.policy.specs.Model.{Table, rowAt, parentOf}
+use Rattle.policy.specs.Wellformed.{Wellformed}
+use Rattle.relations.specs.Decides.{Decides}
+use Rattle.relations.specs.Technologies.{layerOf}
+use Rattle.relations.proofs.Laws.Decides.{decides-eqb, decides-ltb, decides-holds, decides-fails, decided}
+use Rattle.relations.proofs.Laws.Entities.{above-antisym}
+use Rattle.relations.proofs.Laws.Selectors.{contains-antisym}
+use Rattle.relations.proofs.Laws.Tables.{table-tree}
+use Rattle.search.specs.Views.{bit}
+use Rattle.search.proofs.Laws.Loops.{bit-le}
+use Rattle.kinds.specs.Kinds.{IsRow, noSecond, EarlierInGroup, Encloses, SameTraffic, Contradiction}
+use Rattle.kinds.specs.Tests.{pairAt, shadowing, redundancy, exception, correlation, inclusion, affinity, contradiction, skewed, monitorable, anomaly}
+use Rattle.kinds.specs.Entries.{Entry, entry, gather, listed, entries}
+use Rattle.kinds.proofs.Laws.Entries.{ofKind, ofRow}
+use Rattle.kinds.proofs.Laws.Pairs as pairs
+
+-- ---- sums
+
+-- Of n numbers f x, from x = k on.
+sum : ℕ → ℕ → (ℕ → ℕ) → ℕ
+sum zero k f = 0
+sum (suc n) k f = f k + sum n (suc k) f
+
+gather-length : (f : ℕ → List Entry) (g : ℕ → ℕ) → ((x : ℕ) → length (f x) ≡ g x) → (n k : ℕ) → length (gather n k f) ≡ sum n k g
+unfolding gather sum
+gather-length f g h zero k = refl
+gather-length f g h (suc n) k = length-append (f k) (gather n (suc k) f) ∙ (λ i. h k i + gather-length f g h n (suc k) i)
+
+sum-add : (f g : ℕ → ℕ) (n k : ℕ) → sum n k (λ x. f x + g x) ≡ sum n k f + sum n k g
+unfolding sum
+sum-add f g zero k = refl
+sum-add f g (suc n) k = let h = sum-add f g n (suc k) in omega arith
+
+sum-zero : (n k : ℕ) → sum n k (λ x. 0) ≡ 0
+unfolding sum
+sum-zero zero k = refl
+sum-zero (suc n) k = let h = sum-zero n (suc k) in omega arith
+
+sum-exchange : (f : ℕ → ℕ → ℕ) (m l n k : ℕ) → sum n k (λ x. sum m l (f x)) ≡ sum m l (λ y. sum n k (λ x. f x y))
+unfolding sum
+sum-exchange f m l zero k = sym (sum-zero m l)
+sum-exchange f m l (suc n) k =
+    ap (λ s. sum m l (f k) + s) (sum-exchange f m l n (suc k)) ∙ sym (sum-add (f k) (λ y. sum n (suc k) (λ x. f x y)) m l)
+
+module _ (f : ℕ → ℕ) (c : ℕ) where
+  sum-le : (n k : ℕ) → ((x : ℕ) → k ≤ x → x < k + n → f x ≤ c) → sum n k f ≤ n * c
+  unfolding sum
+  sum-le zero k h = omega arith
+  sum-le (suc n) k h =
+      let a = h k (omega arith) (omega arith) in
+      let b = sum-le n (suc k) (λ x l m. h x (omega arith) (omega arith)) in omega arith
+
+  -- One of them is 0.
+  sum-but : (i n k : ℕ) → k ≤ i → i < k + n → ((x : ℕ) → k ≤ x → x < k + n → f x ≤ c) → f i ≡ 0 → sum n k f + c ≤ n * c
+  unfolding sum
+  sum-but i zero k l m h z = absurd (omega arith)
+  sum-but i (suc n) k l m h z = elim (decided (eqb k i) (decides-eqb k i)) [
+    | inl q ↦
+        let a : f k ≡ 0 = rw q z in
+        let b = sum-le n (suc k) (λ x l m. h x (omega arith) (omega arith)) in
+        omega arith
+    | inr ne ↦
+        let a = h k (omega arith) (omega arith) in
+        let b = sum-but i n (suc k) (omega (arith, ne)) (omega arith) (λ x l m. h x (omega arith) (omega arith)) z in
+        omega arith
+  ]
+
+-- ---- tests that are counted
+
+counted : Bool → ℕ
+counted b = bit b
+
+pick-length : (b : Bool) (e : Entry) → length (pick b (e ∷ []) []) ≡ counted b
+unfolding counted
+pick-length true e = refl
+pick-length false e = refl
+
+counted-le : (b : Bool) → counted b ≤ 1
+unfolding counted
+counted-le b = bit-le b
+
+-- One more that may hold; one more that cannot.
+more : (b : Bool) {m n : ℕ} → m ≤ n → counted b + m ≤ suc n
+more b h = omega (arith, counted-le b)
+
+skip : {m n : ℕ} → m ≤ n → counted false + m ≤ n
+unfolding counted
+skip h = omega arith
+
+-- One more that does not hold; one more, and where it holds nothing else does.
+none : (b : Bool) {P : Type 0} → Decides b P → (P → ⊥) → (n : ℕ) → n ≡ 0 → counted b + n ≡ 0
+unfolding counted
+none b d h n z = rw (decides-fails b d h, z)
+
+one : (b : Bool) {P : Type 0} → Decides b P → (n : ℕ) → (P → n ≡ 0) → n ≤ 1 → counted b + n ≤ 1
+unfolding counted
+one true d n h l = let z = h (d .yes refl) in omega arith
+one false d n h l = omega arith
+
+-- ---- of row i
+
+module _ (t : Table) (w : Wellformed t) (i : ℕ) (hi : IsRow t i) where
+  -- 1 where the anomaly is there.
+  abbrev found : ℕ → ℕ → ℕ
+  found kind j = counted (anomaly t i kind j)
+
+  -- The kinds of two rows: 5 to 11, and 13 and 18.
+  abbrev seven : ℕ → ℕ
+  seven j =
+      let p = pairAt t i j in
+      counted (shadowing p)
+      + (counted (redundancy p) + (counted (exception p) + (counted (correlation p) + (counted (inclusion p) + (counted (affinity p) + (counted (contradiction p) + 0))))))
+
+  abbrev two : ℕ → ℕ
+  two j = counted (skewed (pairAt t i j)) + (counted (monitorable (pairAt t i j)) + 0)
+
+  is-row : ltb i (length (t .rows)) ≡ true
+  is-row = decides-holds _ (decides-ltb i (length (t .rows))) hi
+
+  -- At a row: nine kinds.
+  of-two : (j : ℕ) → IsRow t j → sum 20 1 (λ kind. found kind j) ≡ seven j + two j
+  unfolding sum anomaly counted
+  of-two j hj =
+      let k = w .few-rows in
+      rw (is-row, decides-holds _ (decides-ltb j (length (t .rows))) hj, decides-fails _ (decides-eqb j noSecond) (λ e. omega arith)) (omega arith)
+
+  -- At FF: eleven kinds.
+  of-one : sum 20 1 (λ kind. found kind noSecond) ≤ 11
+  unfolding sum anomaly
+  of-one =
+      let k = w .few-rows in
+      rw (is-row, decides-fails _ (decides-ltb noSecond (length (t .rows))) (λ h. omega arith))
+      (more _ (more _ (more _ (more _ (skip (skip (skip (skip (skip (skip (skip (more _ (skip (more _ (more _ (more _ (more _ (skip (more _ (more _ (omega arith)))))))))))))))))))))
+
+  -- None at the row itself.
+  no-seven : seven i ≡ 0
+  no-seven =
+      none _ (pairs.shadowing-decides t w i i hi hi) (λ s. let h = s .pair .earlier in omega arith) _
+      (none _ (pairs.redundancy-decides t w i i hi hi) (λ r. let h = r .pair .earlier in omega arith) _
+      (none _ (pairs.exception-decides t w i i hi hi) (λ e. let h = e .pair .earlier in omega arith) _
+      (none _ (pairs.correlation-decides t w i i hi hi) (λ c. let h = c .pair .earlier in omega arith) _
+      (none _ (pairs.inclusion-decides t w i i hi hi) (λ n. let h = n .dominates .layer in omega arith) _
+      (none _ (pairs.affinity-decides t w i i hi hi) (λ a. let h = a .pair .earlier in omega arith) _
+      (none _ (pairs.contradiction-decides t w i i hi hi) (λ x. let h = x .pair .earlier in omega arith) _ refl))))))
+
+  no-two : two i ≡ 0
+  no-two =
+      none _ (pairs.skewed-decides t w i i hi hi) (λ s. s .pair .different refl) _
+      (none _ (pairs.monitorable-decides t w i i hi hi) (λ m. m .pair .different refl) _ refl)
+
+  module _ (j : ℕ) (hj : IsRow t j) where
+    -- 5 and 7 are never both.
+    same-traffic : Encloses t i j → Encloses t j i → SameTraffic t i j
+    same-traffic e f =
+        record {
+          source = above-antisym (parentOf t) (table-tree t w) _ _ (e .source) (f .source);
+          destination = above-antisym (parentOf t) (table-tree t w) _ _ (e .destination) (f .destination);
+          selector = contains-antisym _ _ (pairs.selector-ordered t w i hi) (pairs.selector-ordered t w j hj) (e .selector) (f .selector);
+        }
+
+    one-null : Contradiction t i j → (rowAt t i .technology ≡ 0 → ⊥) → (rowAt t j .technology ≡ 0 → ⊥) → ⊥
+    one-null x n m = elim (x .one-null) [ inl h ↦ n (h .0) | inr h ↦ m (h .1) ]
+
+    -- In one group t is the same.
+    in-group : EarlierInGroup t i j → counted (inclusion (pairAt t i j)) + (counted (affinity (pairAt t i j)) + (counted (contradiction (pairAt t i j)) + 0)) ≡ 0
+    in-group g =
+        let q = g .group .technology in
+        none _ (pairs.inclusion-decides t w i j hi hj) (λ n. let h = n .dominates .layer in let e = ap layerOf q in omega arith) _
+        (none _ (pairs.affinity-decides t w i j hi hj) (λ a. a .different q) _
+        (none _ (pairs.contradiction-decides t w i j hi hj) (λ x. elim (x .one-null) [ inl h ↦ h .1 (sym q ∙ h .0) | inr h ↦ h .0 (q ∙ h .1) ]) _ refl))
+
+    -- Of 5 to 11 at most one.
+    at-most-one : seven j ≤ 1
+    at-most-one =
+        let red = pairs.redundancy-decides t w i j hi hj in
+        let exc = pairs.exception-decides t w i j hi hj in
+        let cor = pairs.correlation-decides t w i j hi hj in
+        let aff = pairs.affinity-decides t w i j hi hj in
+        let con = pairs.contradiction-decides t w i j hi hj in
+        one _ (pairs.shadowing-decides t w i j hi hj) _
+        (λ s.
+        none _ red (λ r. s .weaker (r .stronger)) _
+        (none _ exc (λ e. e .different (same-traffic (s .encloses) (e .enclosed))) _ (none _ cor (λ c. c .no-shadowing s) _ (in-group (s .pair)))))
+        (one _ red _ (λ r. none _ exc (λ e. e .weaker (r .stronger)) _ (none _ cor (λ c. c .no-redundancy r) _ (in-group (r .pair))))
+        (one _ exc _ (λ e. none _ cor (λ c. c .no-exception e) _ (in-group (e .pair)))
+        (one _ cor _ (λ c. in-group (c .pair))
+        (one _ (pairs.inclusion-decides t w i j hi hj) _
+        (λ n. none _ aff (λ a. a .no-inclusion n) _ (none _ con (λ x. one-null x (n .dominates .upper) (n .dominates .lower)) _ refl))
+        (one _ aff _ (λ a. none _ con (λ x. one-null x (a .not-null) (a .other-not-null)) _ refl)
+        (one _ con _ (λ x. refl) (omega arith)))))))
+
+    at-most-three : sum 20 1 (λ kind. found kind j) ≤ 3
+    at-most-three =
+        rw (of-two j hj)
+        (omega (arith, at-most-one, counted-le (skewed (pairAt t i j)), counted-le (monitorable (pairAt t i j))))
+
+  -- ---- the entries of row i
+
+  kind-length : (kind : ℕ) → length (ofKind t i kind) ≡ sum (length (t .rows)) 0 (found kind) + found kind noSecond
+  kind-length kind =
+      length-append (gather (length (t .rows)) 0 (λ j. listed t i kind j)) (listed t i kind noSecond)
+      ∙ (λ k. gather-length (λ j. listed t i kind j) (found kind) (λ j. pick-length _ (entry i kind j)) (length (t .rows)) 0 k
+      + pick-length (anomaly t i kind noSecond) (entry i kind noSecond) k)
+
+  row-length : length (ofRow t i) ≤ 200
+  row-length =
+      let n = length (t .rows) in
+      let a = gather-length (ofKind t i) _ kind-length 20 1 in
+      let b = sum-add (λ kind. sum n 0 (found kind)) (λ kind. found kind noSecond) 20 1 in
+      let c = sum-exchange found n 0 20 1 in
+      let d = sum-but (λ j. sum 20 1 (λ kind. found kind j)) 3 i n 0 (omega arith) (omega arith) (λ j l m. at-most-three j (omega arith)) (omega (arith, of-two i hi, no-seven, no-two)) in
+      let e = of-one in
+      let f = w .few-rows in
+      omega arith
+
+-- "At most 12,800 entries"
+pub entries-few : (t : Table) → Wellformed t → length (entries t) ≤ 12800
+unfolding entries
+entries-few t w =
+    let n = length (t .rows) in
+    let a = gather-length (ofRow t) (λ i. length (ofRow t i)) (λ i. refl) n 0 in
+    let b = sum-le (λ i. length (ofRow t i)) 200 n 0 (λ i l m. row-length t w i (omega arith)) in
+    let f = w .few-rows in
+    omega arith

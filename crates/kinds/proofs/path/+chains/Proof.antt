@@ -1,0 +1,219 @@
+-- The chain search `chains` meets its contract: no row before j is the next of a chain, and the rows still allowed fall at each call. Assumes nothing.
+use Prim.Native.Nat.{ℕ, suc, _+_, _-_, _≤_, _<_}
+use mathlib.Core.Path.{_≡_, sym, ap, _∙_}
+use mathlib.Core.Bool.{Bool, false}
+use mathlib.Core.List.{List, _∷_}
+use native.Mathlib.Omega.{arith}
+use borrow.Author.Needs.{needs}
+use borrow.Author.Tests.{not-true, not-false}
+use borrow.Fn.Kinds.{In}
+use borrow.Fn.PlainCycle.{Measures, is, falls, and}
+use denote.Ref.{now}
+use lib.ListN.{getD}
+use Rattle.policy.specs.Model.{Selector}
+use Rattle.policy.specs.Views.{selectorOf, selectorIn}
+use Rattle.relations.specs.Selectors.{meet}
+use Rattle.kinds.specs.Views.{visitedOf}
+use Rattle.kinds.specs.Tests.{some, goesOn, chains as chained}
+use Rattle.kinds.proofs.Laws.Loops.{some-start, some-none, some-found}
+use Rattle.kinds.proofs.Laws.Chains.{next, next-off, next-last, next-only, next-on, chains-some, chains-none}
+use Rattle.kinds.proofs.path.chains.Reads as chains
+use Rattle.kinds.proofs.path.chains.Kinds as chains-kinds
+use Rattle.kinds.proofs.path.+chains.Lts-chains as lts
+use Rattle.kinds.proofs.path.goes_on.Reads as goes-on-reads
+use Rattle.kinds.proofs.path.with.Reads as with-reads
+use Rattle.policy.proofs.table.selector_at.Reads as selector-at-reads
+use Rattle.relations.proofs.selector.meet.Reads as meet-reads
+use Rattle.kinds.proofs.path.+chains.{statement}
+use Rattle.kinds.proofs.path.+chains.Tie.{close}
+
+-- the rows still allowed
+abbrev μ-chains : Measures 1 chains-kinds.ps ℕ
+μ-chains κs a = a .1 .1 .1 .1 .0
+
+abbrev at : ℕ → In 1 chains-kinds.ps
+at t = and 1 chains-kinds.ps (is 1 chains-kinds.ps μ-chains t) chains.Pre
+
+abbrev below : ℕ → In 1 chains-kinds.ps
+below t = and 1 chains-kinds.ps (falls 1 chains-kinds.ps _<_ μ-chains t) chains.Pre
+
+-- whether row j is the next of a chain that may have one row fewer
+abbrev test : (bounds from to : List ℕ) (rows left b a : ℕ) (visited : List ℕ) (s : Selector) → ℕ → Bool
+test bounds from to rows left b a visited s = next (λ k. getD from k 0) (λ k. getD to k 0) (selectorIn bounds) rows (left - 1) b a visited s
+
+abbrev I : lts.InvT-loop
+I bounds from to rows left b a visited s j₀ j = (j ≤ rows) × (some j (test bounds from to rows left b a (visitedOf visited) (selectorOf s)) ≡ false)
+
+abbrev μ : lts.MeasureT-loop
+μ bounds from to rows left b a visited s j₀ j = rows - j
+
+module _ (t : ℕ) where
+  abbrev calls : lts.Claims
+  calls = (
+    goes-on-reads.Asked,
+    goes-on-reads.Learnt,
+    selector-at-reads.Asked,
+    selector-at-reads.Learnt,
+    meet-reads.Asked,
+    meet-reads.Learnt,
+    with-reads.Asked,
+    with-reads.Learnt,
+    below t,
+    chains.Post,
+  )
+
+  abbrev Start : Type 0
+  Start = lts.Start calls (at t) chains.Post I μ
+
+  -- the tests of the rows, and what they come to
+  module _ (s : Start) where
+    abbrev tests : ℕ → Bool
+    tests =
+        test (now (s .args .bounds)) (now (s .args .from)) (now (s .args .to)) (s .args .rows) (s .args .left) (s .args .b) (s .args .a)
+        (visitedOf (s .args .visited)) (selectorOf (s .args .s))
+
+    abbrev goes : ℕ → Bool
+    goes j =
+        goesOn (λ k. getD (now (s .args .from)) k 0) (λ k. getD (now (s .args .to)) k 0) (selectorIn (now (s .args .bounds))) j (s .args .a)
+        (visitedOf (s .args .visited)) (selectorOf (s .args .s))
+
+    abbrev answer : ℕ → Bool
+    answer left =
+        chained (λ k. getD (now (s .args .from)) k 0) (λ k. getD (now (s .args .to)) k 0) (selectorIn (now (s .args .bounds))) (s .args .rows) left (s .args .b)
+        (s .args .a) (visitedOf (s .args .visited)) (selectorOf (s .args .s))
+
+    whole : (s .args .left ≡ 0 → ⊥) → answer (s .args .left) ≡ some (s .args .rows) tests
+    whole ne =
+        let e : s .args .left ≡ suc (s .args .left - 1) = omega (arith, ne) in
+        ap answer e ∙ chains-some _ _ _ _ _ _ _ _ _
+
+  none-allowed : lts.Need-returns calls (at t) chains.Post I μ
+  none-allowed c = rw (c .if1 .taken) (sym (chains-none _ _ _ _ _ _ _ _))
+
+  starts : lts.Need-loop-holds calls (at t) chains.Post I μ
+  starts c = (omega arith, some-start (tests (c .before)))
+
+  off : lts.Need-loop-again calls (at t) chains.Post I μ
+  off c =
+      let g = c .before in
+      let l = g .before .before in
+      let s = l .before .before in
+      (search needs, some-none (tests s) (l .loop .j) (l .loop .inv .1) (next-off _ _ _ _ _ _ _ _ _ (l .loop .j) (sym (g .goes-on .ensures) ∙ not-true _ (c .if2 .taken))))
+
+  last : lts.Need-returns-2 calls (at t) chains.Post I μ
+  last c =
+      let e = c .before in
+      let i = e .before .before in
+      let g = i .before in
+      let l = g .before .before in
+      let s = l .before .before in
+      sym
+      (whole s (l .before .if1 .left)
+      ∙ some-found (tests s) (s .args .rows) (l .loop .j) (g .before .loop-test .taken)
+      (next-last _ _ _ _ _ _ _ _ _ (l .loop .j) (sym (g .goes-on .ensures) ∙ not-false _ (i .if2 .left)) (e .if3 .taken) (let h = c .if4 .taken in let n = l .before .if1 .left in omega arith)))
+
+  only : lts.Need-loop-again-2 calls (at t) chains.Post I μ
+  only c =
+      let e = c .before in
+      let i = e .before .before in
+      let g = i .before in
+      let l = g .before .before in
+      let s = l .before .before in (
+        search needs,
+        some-none (tests s) (l .loop .j) (l .loop .inv .1)
+            (next-only _ _ _ _ _ _ _ _ _ (l .loop .j) (sym (g .goes-on .ensures) ∙ not-false _ (i .if2 .left)) (e .if3 .taken) (let h = c .if4 .left in omega arith)),
+      )
+
+  -- the search that goes on from the row's end
+  module _ (c : lts.After-chains calls (at t) chains.Post I μ) where
+    abbrev w : lts.After-with calls (at t) chains.Post I μ
+    w = c .before
+
+    abbrev m : lts.After-meet calls (at t) chains.Post I μ
+    m = w .before .before .before
+
+    abbrev g : lts.After-goes-on calls (at t) chains.Post I μ
+    g = m .before .before .before .before .before
+
+    abbrev l : lts.At-loop calls (at t) chains.Post I μ
+    l = g .before .before
+
+    abbrev s : Start
+    s = l .before .before
+
+    tested : tests s (l .loop .j) ≡ c .chains .result
+    tested =
+        let from : ℕ → ℕ = λ k. getD (now (s .args .from)) k 0 in
+        let to : ℕ → ℕ = λ k. getD (now (s .args .to)) k 0 in
+        let selector = selectorIn (now (s .args .bounds)) in
+        let j = l .loop .j in
+        let q = m .before in
+        next-on from to selector (s .args .rows) (s .args .left - 1) (s .args .b) (s .args .a) (visitedOf (s .args .visited)) (selectorOf (s .args .s)) j
+        (sym (g .goes-on .ensures) ∙ not-false _ (q .before .before .before .if2 .left)) (q .before .if3 .left)
+        ∙ sym
+        (c .chains .ensures
+        ∙ ap (λ (v : List ℕ). chained from to selector (s .args .rows) (s .args .left - 1) (s .args .b) (to j) v (selectorOf (m .meet .result))) (w .with .ensures .roots)
+        ∙ ap (chained from to selector (s .args .rows) (s .args .left - 1) (s .args .b) (to j) (to j ∷ visitedOf (s .args .visited)))
+        (m .meet .ensures ∙ ap (meet (selectorOf (s .args .s))) (q .selector-at .ensures)))
+
+  on : lts.Need-returns-3 calls (at t) chains.Post I μ
+  on c =
+      let k = c .before in
+      sym (whole (s k) (l k .before .if1 .left) ∙ some-found (tests (s k)) (s k .args .rows) (l k .loop .j) (g k .before .loop-test .taken) (tested k ∙ c .if5 .taken))
+
+  no-further : lts.Need-loop-again-3 calls (at t) chains.Post I μ
+  no-further c =
+      let k = c .before in
+      (let h = g k .before .loop-test .taken in omega arith, some-none (tests (s k)) (l k .loop .j) (l k .loop .inv .1) (tested k ∙ c .if5 .left))
+
+  end : lts.Need-returns-4 calls (at t) chains.Post I μ
+  end c =
+      let l = c .before in
+      let s = l .before .before in
+      let h = c .loop-test .left in
+      let i = l .loop .inv .0 in
+      let e : s .args .rows ≡ l .loop .j = omega arith in
+      sym (whole s (l .before .if1 .left) ∙ ap (λ (n : ℕ). some n (tests s)) e ∙ l .loop .inv .1)
+
+  with-room : lts.Need-with-requires calls (at t) chains.Post I μ
+  with-room c κs =
+      let i = c .before .before .before .before .before .before .before .before .before .before in
+      let n = i .if1 .left in
+      let r = i .before .pre .1 .1 in
+      omega arith
+
+  fewer : lts.Need-chains-requires calls (at t) chains.Post I μ
+  fewer c κs =
+      let i = c .before .before .before .before .before .before .before .before .before .before .before in
+      let n = i .if1 .left in
+      let e = i .before .pre .0 in
+      let r = i .before .pre .1 .1 in
+      let k = c .with .ensures .count in
+      (omega arith, (i .before .pre .1 .0, omega arith))
+
+pub +chains-spec : {M : Type 1} → statement M
++chains-spec =
+    close μ-chains
+    (λ t.
+    lts.spec (calls t) (at t) chains.Post I μ
+    (none-allowed t)
+    (starts t)
+    (λ c. search needs)
+    (λ c κs. search needs)
+    (λ c. search needs)
+    (off t)
+    (λ c. search needs)
+    (last t)
+    (λ c. search needs)
+    (only t)
+    (λ c κs. search needs)
+    (λ c κs. search needs)
+    (λ c. search needs)
+    (λ c. let l = c .before .before .before .before .before .before .before in let h = l .before .before .pre .1 .0 in let k = c .before .before .before .before .before .before .loop-test .taken in omega arith)
+    (λ c. let l = c .before .before .before .before .before .before .before .before in let h = l .before .before .pre .1 .0 in let k = c .before .before .before .before .before .before .before .loop-test .taken in omega arith)
+    (with-room t)
+    (fewer t)
+    (on t)
+    (λ c. search needs)
+    (no-further t)
+    (end t))

@@ -1,0 +1,5 @@
+-- Laws of the marks, of the entries that are written, and of what a table lends.
+pub mod Numbers
+pub mod Singles
+pub mod Puts
+pub mod Tables

@@ -1,0 +1,124 @@
+-- Entries written one after another.
+-- Assumes nothing.
+use Prim.Native.Nat.{ℕ, suc, _+_, _-_, _*_, _≤_, _<_}
+use mathlib.Core.Path.{_≡_, refl, sym, ap, _∙_}
+use mathlib.Core.List.{List, [], _∷_, _++_, append-nil, append-assoc}
+use native.Mathlib.Numerals.{add-one}
+use native.Mathlib.Omega.{arith}
+use borrow.Author.Tests.{le-leb, lt-leb}
+use lib.ListN.{length, set, take, drop, length-append}
+use lib.Seq.{sets, sets-eq, take-length, take-append-seam}
+use Rattle.kinds.specs.Entries.{Entry, gather}
+use Rattle.kinds.proofs.Laws.Entries.{gather-next, gather-end}
+use Rattle.listing.specs.Bytes.{bytes, Put, Listing}
+use Rattle.listing.specs.declared.Listed.the-variants.{Count, Short}
+
+pub length-bytes : (es : List Entry) → length (bytes es) ≡ 3 * length es
+unfolding bytes
+length-bytes [] = refl
+length-bytes (e ∷ es) = let h = length-bytes es in omega arith
+
+bytes-append : (es fs : List Entry) → bytes (es ++ fs) ≡ bytes es ++ bytes fs
+unfolding bytes
+bytes-append [] fs = refl
+bytes-append (e ∷ es) fs = rw (bytes-append es fs) refl
+
+-- a run of stores, and one after it
+sets-append : (l : List ℕ) (i : ℕ) (vs ws : List ℕ) → sets l i (vs ++ ws) ≡ sets (sets l i vs) (i + length vs) ws
+sets-append l i [] ws = let e : i + 0 ≡ i = omega arith in ap (λ (k : ℕ). sets l k ws) (sym e)
+sets-append l i (v ∷ vs) ws =
+    let e : suc i + length vs ≡ i + suc (length vs) = omega arith in
+    sets-append (set l i v) (suc i) vs ws ∙ ap (λ (k : ℕ). sets (sets (set l i v) (suc i) vs) k ws) e
+
+pub put-none : (l : List ℕ) (n : ℕ) → Put l n l n []
+unfolding bytes
+put-none l n = record { stored = refl; count = omega arith }
+
+pub put-then : {a b c : List ℕ} {n m k : ℕ} {es fs : List Entry} → Put a n b m es → Put b m c k fs → Put a n c k (es ++ fs)
+put-then {a} {b} {c} {n} {m} {k} {es} {fs} p q =
+    let h = length-bytes es in
+    let d = p .count in
+    let e : 3 * m ≡ 3 * n + length (bytes es) = omega arith in
+    record {
+      stored =
+          q .stored
+          ∙ ap (λ (l : List ℕ). sets l (3 * m) (bytes fs)) (p .stored)
+          ∙ ap (λ (j : ℕ). sets (sets a (3 * n) (bytes es)) j (bytes fs)) e
+          ∙ sym (ap (sets a (3 * n)) (bytes-append es fs) ∙ sets-append a (3 * n) (bytes es) (bytes fs));
+      count = let f = length-append es fs in let g = q .count in omega arith;
+    }
+
+-- Written from the start, they are the first bytes.
+pub put-first : {a b : List ℕ} {n : ℕ} {es : List Entry} → Put a 0 b n es → 3 * length es ≤ length a → take (3 * n) b ≡ bytes es
+put-first {a} {b} {n} {es} p h =
+    let l = length-bytes es in
+    let c = p .count in
+    let e : 3 * n ≡ length (bytes es) = omega arith in
+    ap (take (3 * n)) (p .stored ∙ sets-eq (bytes es) a 0 (omega arith))
+    ∙ ap (λ (k : ℕ). take k (bytes es ++ drop (0 + length (bytes es)) a)) e
+    ∙ take-append-seam (bytes es) (drop (0 + length (bytes es)) a)
+
+-- ---- the caller's buffer
+
+pub listing-short : (es : List Entry) (out : List ℕ) → length out < 3 * length es → Listing es out out Short
+listing-short es out h =
+    let e = lt-leb (3 * length es) (length out) h in
+    record { buffer = rw e refl; result = rw e refl }
+
+pub listing-whole : (es : List Entry) (out after : List ℕ) (n : ℕ) → 3 * length es ≤ length out → n ≡ length es
+    → after ≡ bytes es ++ drop (3 * length es) out → Listing es out after (Count n)
+listing-whole es out after n h c a =
+    let e = le-leb (3 * length es) (length out) h in
+    record { buffer = rw e a; result = rw (e, c) refl }
+
+pub copied : (es : List Entry) (from out : List ℕ) → from ≡ bytes es → take (length from) from ++ drop (length from) out ≡ bytes es ++ drop (3 * length es) out
+copied es from out e =
+    ap (λ (l : List ℕ). take (length l) l ++ drop (length l) out) e
+    ∙ ap (λ (l : List ℕ). l ++ drop (length (bytes es)) out) (take-length (bytes es))
+    ∙ ap (λ (k : ℕ). bytes es ++ drop k out) (length-bytes es)
+
+-- ---- entries one after another
+
+-- Of the entries `whole` those left are to be written still.
+pub record Going (before : List ℕ) (n : ℕ) (after : List ℕ) (m : ℕ) (whole left : List Entry) : Type 0 where
+  pub done : List Entry
+  pub put : Put before n after m done
+  pub rest : done ++ left ≡ whole
+
+pub going-start : (l : List ℕ) (n : ℕ) (whole : List Entry) → Going l n l n whole whole
+going-start l n whole = record { done = []; put = put-none l n; rest = refl }
+
+-- Those from k on, up to the last: one list more, and none left.
+module _ (f : ℕ → List Entry) (last : ℕ) where
+  abbrev pub from : ℕ → List Entry
+  from k = gather (last - k) k f
+
+  begun : (k : ℕ) → k < last → from k ≡ f k ++ from (k + 1)
+  begun k h =
+      let e : last - k ≡ suc (last - (k + 1)) = omega arith in
+      ap (λ (n : ℕ). gather n k f) e ∙ gather-next f (last - (k + 1)) k ∙ ap (λ (j : ℕ). f k ++ gather (last - (k + 1)) j f) (sym (add-one k))
+
+  module _ {before after : List ℕ} {n m : ℕ} {whole : List Entry} (k : ℕ) where
+    pub from-room : k < last → Going before n after m whole (from k) → n + length whole ≤ 12800 → m + length (f k) ≤ 12800
+    from-room h g r =
+        let g' : Going before n after m whole (f k ++ from (k + 1)) = rw (begun k h) at g in
+        let e = ap length (g' .rest) in
+        let d = length-append (g' .done) (f k ++ from (k + 1)) in
+        let l = length-append (f k) (from (k + 1)) in
+        let c = g' .put .count in
+        omega arith
+
+    pub from-next : {next : List ℕ} {l : ℕ} → k < last → Going before n after m whole (from k) → Put after m next l (f k) → Going before n next l whole (from (k + 1))
+    from-next h g p =
+        let g' : Going before n after m whole (f k ++ from (k + 1)) = rw (begun k h) at g in
+        record {
+          done = g' .done ++ f k;
+          put = put-then (g' .put) p;
+          rest = append-assoc (g' .done) (f k) (from (k + 1)) ∙ g' .rest;
+        }
+
+    pub from-end : last ≤ k → Going before n after m whole (from k) → Put before n after m whole
+    from-end h g =
+        let e : last - k ≡ 0 = omega arith in
+        let g' : Going before n after m whole [] = rw (ap (λ (n : ℕ). gather n k f) e ∙ gather-end f k) at g in
+        rw (sym (append-nil (g' .done)) ∙ g' .rest) at (g' .put)

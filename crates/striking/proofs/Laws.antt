@@ -1,0 +1,4 @@
+-- The laws that crates above cite.
+pub mod Kept
+pub mod Tables
+pub mod Struck

@@ -1,0 +1,2 @@
+-- Striking the dead rows of a table: which rows are kept, the table without the dead, and what it owes the old one.
+pub mod Striking

@@ -1,0 +1,1 @@
+// Striking the dead rows of a table: definitions and laws.
