@@ -2,3 +2,4 @@
 pub mod Calls
 pub mod Examples
 pub mod Listings
+pub mod Winners

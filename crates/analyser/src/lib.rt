@@ -1,7 +1,11 @@
 // The analyser's calls. Each takes the text of a table.
 ghost use mathlib.Core.Path.{_≡_};
-ghost use Rattle.analyser.specs.Calls.{checkOf, lineOf, answerOf, witnessOf, listAnswerOf, listOf, listWritten};
+ghost use Rattle.analyser.specs.Calls.{checkOf, lineOf, answerOf, witnessOf, listAnswerOf, listOf, listWritten, packed, winnerAnswerOf, winnerOf};
+ghost use Rattle.policy.specs.Views.{packetOf};
 use policy::selector::Packet;
+use relations::group;
+use relations::group::Outcome;
+use relations::group::Probe;
 use verdicts::Verdict;
 
 // What Check answers.
@@ -27,6 +31,13 @@ pub enum Witness {
 // What List answers: how many entries there are, or a refusal.
 pub enum Listed {
     Count(usize),
+    Refused { number: u8, line: u8 },
+}
+
+// What Winner answers: the winning row's number, nobody, or a refusal.
+pub enum Winner {
+    Row(usize),
+    Nobody,
     Refused { number: u8, line: u8 },
 }
 
@@ -101,5 +112,56 @@ pub fn list(text: &[u8], out: &mut [u8]) -> Listed
     match listing::list(r.table, out) {
         listing::Listed::Count(n) => Listed::Count(n),
         listing::Listed::Short => Listed::Refused { number: 8, line: 0 },
+    }
+}
+
+// List for C: the count, or 65,536 times the refusal's number plus its line. The layout of the arguments is in include/lainukesk.h.
+#[no_mangle]
+pub extern "C" fn lainukesk_list(text: &[u8], out: &mut [u8]) -> u64
+    ensures answers { λ n. ⌜ n ≡ packed (listOf (now (text .entry)) (now (out .entry))) ⌝ }
+    ensures writes { λ _. ⌜ now (out .exit) ≡ listWritten (now (text .entry)) (now (out .entry)) ⌝ }
+{
+    match list(text, out) {
+        Listed::Count(n) => n as u64,
+        Listed::Refused { number, line } => 65536 * number as u64 + line as u64,
+    }
+}
+
+// The row that wins the probe in the group that row k names.
+pub fn winner_of(text: &[u8], k: usize, p: Probe) -> Winner
+    ensures { λ r. ⌜ winnerAnswerOf r ≡ winnerOf (now (text .entry)) k (p .source) (p .destination) (packetOf (p .packet)) ⌝ }
+{
+    let r = reader::read(text);
+    if r.number != 0 {
+        return Winner::Refused {
+            number: r.number,
+            line: r.line,
+        };
+    }
+    if r.table.rows <= k {
+        return Winner::Refused { number: 9, line: 0 };
+    }
+    if r.table.entities <= p.source as usize {
+        return Winner::Refused {
+            number: 10,
+            line: 0,
+        };
+    }
+    if r.table.entities <= p.destination as usize {
+        return Winner::Refused {
+            number: 10,
+            line: 0,
+        };
+    }
+    match group::winner(
+        &r.table.parents,
+        &r.table.heads,
+        &r.table.bounds,
+        r.table.rows,
+        k,
+        p,
+    ) {
+        Outcome::Won(i) => Winner::Row(i),
+        Outcome::Nobody => Winner::Nobody,
     }
 }

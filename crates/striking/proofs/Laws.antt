@@ -2,3 +2,4 @@
 pub mod Kept
 pub mod Tables
 pub mod Struck
+pub mod Texts

@@ -1,0 +1,26 @@
+/* The analyser of protection policies, for C. Link libanalyser.a, which `rt staticlib analyser` writes to target/staticlib. */
+#ifndef LAINUKESK_H
+#define LAINUKESK_H
+
+#include <stddef.h>
+#include <stdint.h>
+
+/* A buffer of this many bytes holds the list of any table: 12,800 entries of three bytes. */
+#define LAINUKESK_LIST_BYTES 38400
+
+/* Refusals. */
+#define LAINUKESK_CHARACTER 1 /* empty line, other character, odd digits, last line without line feed */
+#define LAINUKESK_LENGTH 2    /* unknown kind, length not the kind's, n above 8 */
+#define LAINUKESK_SEQUENCE 3  /* the sequence can't go on so; a text that ends before the floor gives last line + 1 */
+#define LAINUKESK_ENTITY 4    /* entity breaks its rules */
+#define LAINUKESK_NUMBER 5    /* holder, filter root or gateway isn't a root; s or d no entity; t above 6 */
+#define LAINUKESK_RANGE 6     /* a low above its high */
+#define LAINUKESK_NULL 7      /* NULL with a coefficient above 0 */
+#define LAINUKESK_SHORT 8     /* output shorter than the result; line 0 */
+
+/* Writes the anomalies of the table in text, three bytes each in ascending order (first row, kind, second row or 0xFF), to out from its
+ * start, and leaves the rest of out as it was. Returns how many there are, which is below 65,536; or 65,536 * refusal + line, and then
+ * nothing is written. text and out are not to overlap; neither is kept. A text of length 0 may be any pointer that is not null. */
+uint64_t lainukesk_list(const uint8_t *text, size_t text_length, uint8_t *out, size_t out_length);
+
+#endif

@@ -1,0 +1,121 @@
+//! The list of anomalies, and the kinds that hold of one row.
+
+use crate::chains::alternative_path;
+use crate::dead::dead;
+use crate::pairs;
+use crate::relations::{at_least, contains, layer, root};
+use crate::table::{Row, Selector, Table, NONE};
+
+/// First row, kind, second row or FF.
+pub type Entry = [u8; 3];
+
+/// The table's anomalies in ascending order.
+pub fn list(table: &Table) -> Vec<Entry> {
+    let mut entries = Vec::new();
+    for i in 0..table.rows.len() {
+        for kind in 1..=20 {
+            for j in 0..table.rows.len() {
+                if pairs::holds(table, kind, i, j) {
+                    entries.push([i as u8, kind, j as u8]);
+                }
+            }
+            if holds(table, kind, i) {
+                entries.push([i as u8, kind, NONE]);
+            }
+        }
+    }
+    entries
+}
+
+/// Whether an anomaly of this kind holds of the row alone.
+fn holds(table: &Table, kind: u8, i: usize) -> bool {
+    let row = &table.rows[i];
+    match kind {
+        1 => root(table, row.source) == root(table, row.destination),
+        2 => row.holder != root(table, row.source),
+        3 => non_enforceable(table, row),
+        4 => !table
+            .floor
+            .is_some_and(|floor| at_least(&row.coefficients, &floor)),
+        12 => superfluous(table, i),
+        14 => filtered(table, row),
+        15 => layer(row.technology) == Some(2) && !row.gateways.is_empty(),
+        16 => asymmetric(table, row),
+        17 => cyclic(table, row),
+        19 => alternative_path(table, i),
+        20 => dead(table, i),
+        _ => false,
+    }
+}
+
+/// Kind 3: an end's root lacks the technology, or a coefficient exceeds its cap.
+fn non_enforceable(table: &Table, row: &Row) -> bool {
+    if row.technology == 0 {
+        return false;
+    }
+    let lacks = |end: u8| {
+        let mask = table.entities[usize::from(root(table, end))].mask;
+        mask >> row.technology & 1 == 0
+    };
+    let cap = &table.caps[usize::from(row.technology) - 1];
+    lacks(row.source) || lacks(row.destination) || !at_least(cap, &row.coefficients)
+}
+
+/// Kind 12: some row rides in row i, and each that does has greater coefficients.
+fn superfluous(table: &Table, i: usize) -> bool {
+    let own = &table.rows[i];
+    let riders: Vec<&Row> = (0..table.rows.len())
+        .filter(|&j| j != i && rides(table, &table.rows[j], own))
+        .map(|j| &table.rows[j])
+        .collect();
+    !riders.is_empty()
+        && riders.iter().all(|rider| {
+            at_least(&rider.coefficients, &own.coefficients)
+                && rider.coefficients != own.coefficients
+        })
+}
+
+/// Whether the rider's gateways pass the carrier's source root and later its destination root.
+fn rides(table: &Table, rider: &Row, carrier: &Row) -> bool {
+    let entry = root(table, carrier.source);
+    let exit = root(table, carrier.destination);
+    let passes = match rider.gateways.iter().position(|&gateway| gateway == entry) {
+        Some(place) => rider.gateways[place + 1..].contains(&exit),
+        None => false,
+    };
+    passes && contains(&carrier.selector, &rider.selector)
+}
+
+/// Kind 14: one filter of a gateway contains the row's selector.
+fn filtered(table: &Table, row: &Row) -> bool {
+    table.filters.iter().any(|filter| {
+        row.gateways.contains(&filter.root) && contains(&filter.selector, &row.selector)
+    })
+}
+
+/// Kind 16: no row answers this one.
+fn asymmetric(table: &Table, row: &Row) -> bool {
+    let answer = exchanged(&row.selector);
+    !table.rows.iter().any(|other| {
+        other.source == row.destination
+            && other.destination == row.source
+            && other.coefficients == row.coefficients
+            && other.selector == answer
+    })
+}
+
+/// The selector with source and destination fields exchanged.
+pub fn exchanged(selector: &Selector) -> Selector {
+    let [source, destination, source_port, destination_port, protocol] = *selector;
+    [destination, source, destination_port, source_port, protocol]
+}
+
+/// Kind 17: source root, gateways and destination root name a root twice.
+fn cyclic(table: &Table, row: &Row) -> bool {
+    let mut path = vec![root(table, row.source)];
+    path.extend(&row.gateways);
+    path.push(root(table, row.destination));
+    path.sort_unstable();
+    path.windows(2)
+        .any(|neighbours| neighbours[0] == neighbours[1])
+}

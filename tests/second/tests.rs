@@ -1,0 +1,292 @@
+//! Document 01's table T and its edges, the examples of the kinds, and demand 3 on seeded tables.
+
+use crate::calls;
+use crate::frames::{lines, text};
+use crate::generate::seeded;
+use crate::kinds::list;
+use crate::random::Random;
+use crate::reader::read;
+use crate::relations::same_group;
+use crate::table::{Packet, Refusal, Table, FIELDS};
+use std::collections::BTreeSet;
+
+const ROW_START: &str = "050001030303030300000000FFFFFFFF00000000FFFFFFFF0000FFFF";
+
+/// The lines of document 01's table T.
+fn table_t() -> Vec<Vec<u8>> {
+    let mut lines: Vec<String> = ["01FF007E", "01000300", "01FF007E", "01020300"]
+        .map(String::from)
+        .to_vec();
+    lines.extend((1..=6).map(|technology| format!("020{technology}FFFFFF")));
+    lines.push("03000000".into());
+    for end in ["00007FFF00FF00", "8000FFFF00FF00", "0000FFFF00FF00"] {
+        lines.push(format!("{ROW_START}{end}"));
+    }
+    lines.into_iter().map(String::into_bytes).collect()
+}
+
+/// T's text with one line (from 1) in another wording.
+fn with_line(line: usize, wording: &str) -> Vec<u8> {
+    let mut lines = table_t();
+    lines[line - 1] = wording.as_bytes().to_vec();
+    text(&lines)
+}
+
+/// The refusal of a text.
+fn refusal(text: &[u8]) -> Option<(usize, usize)> {
+    read(text)
+        .err()
+        .map(|Refusal { number, line }| (number, line))
+}
+
+#[test]
+fn list_of_t() {
+    let mut output = [0xAA; 20];
+    let text = text(&table_t());
+    assert_eq!(calls::list(&text, &mut output[..18]), Ok(6));
+    let entries = [
+        0, 8, 2, 0, 16, 255, 1, 8, 2, 1, 16, 255, 2, 16, 255, 2, 20, 255,
+    ];
+    assert_eq!(output[..18], entries);
+    assert_eq!(output[18..], [0xAA; 2]);
+    let mut short = [0xAA; 17];
+    assert_eq!(
+        calls::list(&text, &mut short),
+        Err(Refusal { number: 8, line: 0 })
+    );
+    assert_eq!(short, [0xAA; 17]);
+}
+
+#[test]
+fn witnesses_of_t() {
+    let text = text(&table_t());
+    assert_eq!(calls::witness(&text, 0), Ok(Some([0; 5])));
+    assert_eq!(calls::witness(&text, 1), Ok(Some([0, 0, 0, 32_768, 0])));
+    assert_eq!(calls::witness(&text, 2), Ok(None));
+    assert_eq!(
+        calls::witness(&text, 3),
+        Err(Refusal { number: 9, line: 0 })
+    );
+}
+
+#[test]
+fn other_calls_on_t() {
+    let whole = text(&table_t());
+    assert_eq!(calls::check(&whole), Ok([4, 0, 3]));
+    assert_eq!(calls::line(&whole, 1), table_t()[12]);
+    assert_eq!(calls::line(&whole, 3), b"");
+    let mut output = vec![0; whole.len()];
+    let length = calls::strike(&whole, &mut output).unwrap();
+    assert_eq!(output[..length], text(&table_t()[..13]));
+    assert_eq!(
+        calls::strike(&whole, &mut vec![0; length - 1]),
+        Err(Refusal { number: 8, line: 0 })
+    );
+    assert_eq!(
+        calls::winner(&whole, 2, 1, 3, &[0, 0, 0, 32_768, 0]),
+        Ok(Some(1))
+    );
+    assert_eq!(calls::winner(&whole, 0, 0, 3, &[0; 5]), Ok(None));
+    assert_eq!(
+        calls::winner(&whole, 3, 4, 3, &[0; 5]),
+        Err(Refusal { number: 9, line: 0 })
+    );
+    assert_eq!(
+        calls::winner(&whole, 0, 1, 4, &[0; 5]),
+        Err(Refusal {
+            number: 10,
+            line: 0
+        })
+    );
+}
+
+#[test]
+fn refusals_of_digits_and_form() {
+    let whole = text(&table_t());
+    assert_eq!(refusal(&whole[..whole.len() - 1]), Some((1, 14)));
+    assert_eq!(refusal(b"\n"), Some((1, 1)));
+    assert_eq!(refusal(b"01FF007e\n"), Some((1, 1)));
+    assert_eq!(refusal(b"01FF007E\r\n"), Some((1, 1)));
+    assert_eq!(refusal(b"01FF007\n"), Some((1, 1)));
+    assert_eq!(refusal(b"06FF007E"), Some((1, 1)));
+    assert_eq!(refusal(b"06FF007E\n"), Some((2, 1)));
+    assert_eq!(refusal(b"05\n"), Some((2, 1)));
+    assert_eq!(refusal(b"01FF007E00\n"), Some((2, 1)));
+    let row = |end: &str| with_line(14, &format!("{ROW_START}0000FFFF00FF{end}"));
+    assert_eq!(refusal(&row("080000000000000000")), None);
+    assert_eq!(refusal(&row("09000000000000000000")), Some((2, 14)));
+    assert_eq!(refusal(&row("01")), Some((2, 14)));
+    assert_eq!(refusal(&row("")), Some((2, 14)));
+}
+
+#[test]
+fn refusals_of_sequence() {
+    assert_eq!(refusal(b""), Some((3, 1)));
+    assert_eq!(refusal(b"0201FFFFFF\n"), Some((3, 1)));
+    assert_eq!(refusal(&text(&table_t()[..10])), Some((3, 11)));
+    assert_eq!(refusal(&text(&table_t()[..11])), None);
+    assert_eq!(refusal(&with_line(5, "0202FFFFFF")), Some((3, 5)));
+    assert_eq!(refusal(&with_line(10, "0207FFFFFF")), Some((3, 10)));
+    assert_eq!(refusal(&with_line(11, "0207FFFFFF")), Some((3, 11)));
+    assert_eq!(refusal(&with_line(12, "03000000")), Some((3, 12)));
+    assert_eq!(refusal(&with_line(12, "01000000")), Some((3, 12)));
+    let mut surplus = vec![b"01FF007E".to_vec(); 128];
+    surplus.push(b"01FF01FF".to_vec());
+    assert_eq!(refusal(&text(&surplus)), Some((3, 129)));
+}
+
+#[test]
+fn refusals_of_content() {
+    for entity in [
+        "01FF027E", "01000000", "01FF007F", "01FF00FE", "01000301", "01010300", "01050300",
+        "01000400",
+    ] {
+        assert_eq!(refusal(&with_line(3, entity)), Some((4, 3)), "{entity}");
+    }
+    let row = |start: &str| {
+        with_line(
+            14,
+            &format!("05{start}00000000FFFFFFFF00000000FFFFFFFF0000FFFF0000FFFF00FF00"),
+        )
+    };
+    assert_eq!(refusal(&row("00010303030303")), None);
+    for start in [
+        "01010303030303",
+        "04010303030303",
+        "00040303030303",
+        "0001FF03030303",
+        "00010307030303",
+    ] {
+        assert_eq!(refusal(&row(start)), Some((5, 14)), "{start}");
+    }
+    assert_eq!(refusal(&row("00010300000000")), None);
+    for start in ["00010300000001", "00010300000100", "00010300010000"] {
+        assert_eq!(refusal(&row(start)), Some((7, 14)), "{start}");
+    }
+    let bounds = |range: &str| with_line(14, &format!("{ROW_START}0000FFFF{range}00"));
+    assert_eq!(refusal(&bounds("8080")), None);
+    assert_eq!(refusal(&bounds("8180")), Some((6, 14)));
+    assert_eq!(
+        refusal(&with_line(14, &format!("{ROW_START}0000FFFF00FF0101"))),
+        Some((5, 14))
+    );
+}
+
+#[test]
+fn executed_examples() {
+    let directory = std::path::Path::new("crates/answers");
+    let stored = |name: &str| std::fs::read_to_string(directory.join(name)).unwrap();
+    let mut printed = String::new();
+    for name in stored("args").lines() {
+        let text = std::fs::read(directory.join("data").join(name)).unwrap();
+        let answer = crate::answer_lines(&text);
+        printed += &format!("{name} {}", answer.unwrap_or_else(|refusal| crate::refused(refusal) + "\n"));
+    }
+    assert_eq!(printed, stored("stdout"));
+}
+
+#[test]
+fn seeded_texts_have_every_kind_and_refusal() {
+    let mut kinds = BTreeSet::new();
+    let mut refusals = BTreeSet::new();
+    for number in 0..400 {
+        match read(&seeded(1, number)) {
+            Ok(table) => kinds.extend(list(&table).iter().map(|entry| entry[1])),
+            Err(refusal) => {
+                refusals.insert(refusal.number);
+            }
+        }
+    }
+    assert_eq!(kinds, (1..=20).collect());
+    assert_eq!(refusals, (1..=7).collect());
+}
+
+#[test]
+fn seeded_tables_are_read_as_written() {
+    for number in 0..100 {
+        let text_read = seeded(2, number);
+        if let Ok(table) = read(&text_read) {
+            assert_eq!(text(&lines(&table)), text_read);
+        }
+    }
+}
+
+#[test]
+fn demand_three_on_seeded_tables() {
+    let random = &mut Random::new(3);
+    for number in 0..150 {
+        let old_text = seeded(3, number);
+        let Ok(old) = read(&old_text) else {
+            continue;
+        };
+        let mut output = vec![0; old_text.len()];
+        let length = calls::strike(&old_text, &mut output).unwrap();
+        let new = read(&output[..length]).unwrap();
+        let listed_dead: Vec<usize> = list(&old)
+            .iter()
+            .filter(|entry| entry[1] == 20)
+            .map(|entry| usize::from(entry[0]))
+            .collect();
+        let kept: Vec<usize> = (0..old.rows.len())
+            .filter(|row| !listed_dead.contains(row))
+            .collect();
+        assert_eq!(
+            new.rows,
+            kept.iter()
+                .map(|&row| old.rows[row].clone())
+                .collect::<Vec<_>>()
+        );
+        assert!(list(&new).iter().all(|entry| entry[1] != 20));
+        for row in 0..old.rows.len() {
+            check_witness(&old, &old_text, row, listed_dead.contains(&row), random);
+        }
+        for _ in 0..if old.rows.is_empty() { 0 } else { 200 } {
+            compare_winners(&old, &new, &kept, random);
+        }
+    }
+}
+
+/// Holds a row's witness against winners: it wins there, and with no smaller packet tried.
+fn check_witness(table: &Table, text: &[u8], row: usize, listed_dead: bool, random: &mut Random) {
+    let witness = calls::witness(text, row).unwrap();
+    assert_eq!(witness.is_none(), listed_dead);
+    let own = &table.rows[row];
+    let wins =
+        |a: u8, b: u8, packet: &Packet| crate::dead::winner(table, row, a, b, packet) == Some(row);
+    if let Some(packet) = witness {
+        assert!(wins(own.source, own.destination, &packet));
+    }
+    for _ in 0..40 {
+        let smaller = packet(random, table);
+        let a = random.below(table.entities.len()) as u8;
+        let b = random.below(table.entities.len()) as u8;
+        if witness.is_none_or(|least| smaller < least) {
+            assert!(!wins(own.source, own.destination, &smaller) && !wins(a, b, &smaller));
+        }
+    }
+}
+
+/// Holds the winner of one probe in the struck table against the winner in the old.
+fn compare_winners(old: &Table, new: &Table, kept: &[usize], random: &mut Random) {
+    let naming = random.below(old.rows.len());
+    let packet = packet(random, old);
+    let like = &old.rows[random.below(old.rows.len())];
+    let before = crate::dead::winner(old, naming, like.source, like.destination, &packet);
+    let in_new = new
+        .rows
+        .iter()
+        .position(|row| same_group(row, &old.rows[naming]))
+        .unwrap();
+    let after = crate::dead::winner(new, in_new, like.source, like.destination, &packet);
+    assert_eq!(before, after.map(|row| kept[row]));
+}
+
+/// A packet at or near bounds of the table's rows.
+fn packet(random: &mut Random, table: &Table) -> Packet {
+    let mut packet = [0; FIELDS];
+    for (field, value) in packet.iter_mut().enumerate() {
+        let range = table.rows[random.below(table.rows.len())].selector[field];
+        *value = random.pick(&[range.low, range.high, range.low.saturating_sub(1)]);
+    }
+    packet
+}
