@@ -5,8 +5,14 @@
 #include <stddef.h>
 #include <stdint.h>
 
-/* A buffer of this many bytes holds the list of any table: 12,800 entries of three bytes. */
+/* Bytes of an entry. A buffer of LAINUKESK_LIST_BYTES holds the list of any table: 12,800 entries. */
+#define LAINUKESK_ENTRY_BYTES 3
 #define LAINUKESK_LIST_BYTES 38400
+
+/* Of a number that lainukesk_list returned: the refusal, 0 for none; its line; and, where there is none, the count of entries. */
+#define LAINUKESK_REFUSAL(n) ((n) / 65536)
+#define LAINUKESK_LINE(n) ((n) % 65536)
+#define LAINUKESK_COUNT(n) ((n) % 65536)
 
 /* Refusals. */
 #define LAINUKESK_CHARACTER 1 /* empty line, other character, odd digits, last line without line feed */
@@ -18,9 +24,17 @@
 #define LAINUKESK_NULL 7      /* NULL with a coefficient above 0 */
 #define LAINUKESK_SHORT 8     /* output shorter than the result; line 0 */
 
+#ifdef __cplusplus
+extern "C" {
+#endif
+
 /* Writes the anomalies of the table in text, three bytes each in ascending order (first row, kind, second row or 0xFF), to out from its
  * start, and leaves the rest of out as it was. Returns how many there are, which is below 65,536; or 65,536 * refusal + line, and then
- * nothing is written. text and out are not to overlap; neither is kept. A text of length 0 may be any pointer that is not null. */
+ * nothing is written. text and out are not to overlap; neither is kept. Neither pointer may be null, even where its length is 0. */
 uint64_t lainukesk_list(const uint8_t *text, size_t text_length, uint8_t *out, size_t out_length);
+
+#ifdef __cplusplus
+}
+#endif
 
 #endif

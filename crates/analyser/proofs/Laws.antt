@@ -1,5 +1,6 @@
 -- The laws that crates above cite.
 pub mod Calls
 pub mod Examples
-pub mod Listings
+pub mod Outputs
+pub mod Promises
 pub mod Winners

@@ -1,10 +1,11 @@
--- Document 01, "The six calls": the answers of Check, Line, Witness, List and Winner for every input.
+-- Document 01, "The six calls": the answers of the calls, and their outputs, for every input.
 -- Assumes nothing.
 use Prim.Native.Nat.{ℕ, _+_, _*_}
 use mathlib.Core.List.{List, []}
 use lib.Dec.{ltb}
 use lib.ListN.{length, getD}
 use Rattle.hex.specs.Digits.{pick}
+use Rattle.hex.specs.Outputs.{fits, written}
 use Rattle.policy.specs.Model.{Packet, Table}
 use Rattle.policy.specs.Views.{packetOf}
 use Rattle.relations.specs.Groups.{winner}
@@ -15,11 +16,14 @@ use Rattle.reader.specs.States.{Parsed, accepted, refusedAt, parse}
 use Rattle.search.specs.Search.{Answer, found, none}
 use Rattle.verdicts.specs.Verdicts.{verdictOn}
 use Rattle.kinds.specs.Entries.{entries}
-use Rattle.listing.specs.Bytes.{fits, written}
+use Rattle.listing.specs.Bytes.{bytes}
+use Rattle.striking.specs.Texts.{struckText}
 use Rattle.analyser.specs.declared.Checked.{Checked}
 use Rattle.analyser.specs.declared.Checked.the-variants.{Counts, Refused}
 use Rattle.analyser.specs.declared.Listed.{Listed}
 use Rattle.analyser.specs.declared.Listed.the-variants.{Count, Refused as ListRefusal}
+use Rattle.analyser.specs.declared.Struck.{Struck}
+use Rattle.analyser.specs.declared.Struck.the-variants.{Length, Refused as StrikeRefusal}
 use Rattle.analyser.specs.declared.Winner.{Winner}
 use Rattle.analyser.specs.declared.Winner.the-variants.{Row as WinningRow, Nobody as NoWinner, Refused as WinnerRefusal}
 use Rattle.analyser.specs.declared.Witness.{Witness}
@@ -69,36 +73,48 @@ witnessIn k (refusedAt number line) = refusal number line
 unfoldable pub witnessOf : List ℕ → ℕ → WitnessAnswer
 witnessOf text k = witnessIn k (parse text)
 
--- What List answers: the count, or a refusal by number and line.
-pub data ListAnswer : Type 0 where
-  count : ℕ → ListAnswer
-  listRefusal : ℕ → ℕ → ListAnswer
+-- What List and Strike answer: the count or the length, or a refusal by number and line.
+pub data Returned : Type 0 where
+  returned : ℕ → Returned
+  refusedBy : ℕ → ℕ → Returned
 
--- The cases of the code's enum.
-abbrev pub listAnswerOf : Listed → ListAnswer
-listAnswerOf (Count n) = count n
-listAnswerOf (ListRefusal number line) = listRefusal number line
+-- The cases of the code's enums.
+abbrev pub listedOf : Listed → Returned
+listedOf (Count n) = returned n
+listedOf (ListRefusal number line) = refusedBy number line
 
--- "List .. returns the count"; 8 where the output is shorter than the result.
-abbrev pub listIn : List ℕ → Parsed → ListAnswer
-listIn out (accepted t) = pick (fits (entries t) out) (count (length (entries t))) (listRefusal 8 0)
-listIn out (refusedAt number line) = listRefusal number line
+abbrev pub struckOf : Struck → Returned
+struckOf (Length n) = returned n
+struckOf (StrikeRefusal number line) = refusedBy number line
 
-unfoldable pub listOf : List ℕ → List ℕ → ListAnswer
-listOf text out = listIn out (parse text)
+-- The answer of a call that writes a result and returns a value of it; 8 where the output is shorter than the result.
+abbrev pub answerIn : (Table → List ℕ) → (Table → ℕ) → List ℕ → Parsed → Returned
+answerIn result value out (accepted t) = pick (fits (result t) out) (returned (value t)) (refusedBy 8 0)
+answerIn result value out (refusedAt number line) = refusedBy number line
 
--- "a number in return: the count, or 65,536 × refusal + line"
-abbrev pub packed : ListAnswer → ℕ
-packed (count n) = n
-packed (listRefusal number line) = 65536 * number + line
+-- The output after such a call. "A refusal writes to no output."
+abbrev pub outputIn : (Table → List ℕ) → List ℕ → Parsed → List ℕ
+outputIn result out (accepted t) = written (result t) out
+outputIn result out (refusedAt number line) = out
 
--- "three bytes an entry .. The rest of the buffer is unchanged." "A refusal writes to no output."
-abbrev pub writtenIn : List ℕ → Parsed → List ℕ
-writtenIn out (accepted t) = written (entries t) out
-writtenIn out (refusedAt number line) = out
+-- "List writes three bytes an entry (first row, kind, second number) in ascending order, .. and returns the count."
+unfoldable pub listOf : List ℕ → List ℕ → Returned
+listOf text out = answerIn (λ t. bytes (entries t)) (λ t. length (entries t)) out (parse text)
 
 unfoldable pub listWritten : List ℕ → List ℕ → List ℕ
-listWritten text out = writtenIn out (parse text)
+listWritten text out = outputIn (λ t. bytes (entries t)) out (parse text)
+
+-- "a number in return: the count, or 65,536 × refusal + line"
+abbrev pub packed : Returned → ℕ
+packed (returned n) = n
+packed (refusedBy number line) = 65536 * number + line
+
+-- "Strike writes the text without its dead rows' lines and returns its length"
+unfoldable pub strikeOf : List ℕ → List ℕ → Returned
+strikeOf text out = answerIn (struckText text) (λ t. length (struckText text t)) out (parse text)
+
+unfoldable pub strikeWritten : List ℕ → List ℕ → List ℕ
+strikeWritten text out = outputIn (struckText text) out (parse text)
 
 -- What Winner answers: a row, none, or a refusal by number and line.
 pub data WinnerAnswer : Type 0 where

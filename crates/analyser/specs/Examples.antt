@@ -9,7 +9,7 @@ use Rattle.relations.specs.Coefficients.{AtLeast}
 use Rattle.relations.specs.Selectors.{Overlap}
 use Rattle.relations.specs.Examples.{to}
 use Rattle.reader.specs.Lines.{textOf}
-use Rattle.analyser.specs.Calls.{checkOf, packet, dead, witnessOf}
+use Rattle.analyser.specs.Calls.{checkOf, packet, dead, witnessOf, returned, refusedBy, listOf, listWritten}
 use Rattle.analyser.specs.declared.Checked.the-variants.{Counts, Refused}
 
 -- The text of some frames, given by their bytes.
@@ -53,6 +53,10 @@ T =
     ∷ row (0 ∷ 0 ∷ 255 ∷ 255 ∷ []) []
     ∷ []))
 
+-- "000802, 0010FF, 010802, 0110FF, 0210FF, 0214FF"
+abbrev pub listed : List ℕ
+listed = 0 ∷ 8 ∷ 2 ∷ 0 ∷ 16 ∷ 255 ∷ 1 ∷ 8 ∷ 2 ∷ 1 ∷ 16 ∷ 255 ∷ 2 ∷ 16 ∷ 255 ∷ 2 ∷ 20 ∷ 255 ∷ []
+
 -- The first lines of T and one row.
 abbrev pub withRow : List ℕ → List ℕ
 withRow r = framesText (head ++ (r ∷ []))
@@ -68,6 +72,9 @@ items =
     (witnessOf T 0 ≡ packet (0 ∷ 0 ∷ 0 ∷ 0 ∷ 0 ∷ []))
     ∷ (witnessOf T 1 ≡ packet (0 ∷ 0 ∷ 0 ∷ 32768 ∷ 0 ∷ []))
     ∷ (witnessOf T 2 ≡ dead)
+    -- "List in 18 bytes fits, 17 gives 8."
+    ∷ ((out : List ℕ) → length out ≡ 18 → (listOf T out ≡ returned 6) × (listWritten T out ≡ listed))
+    ∷ ((out : List ℕ) → length out ≡ 17 → (listOf T out ≡ refusedBy 8 0) × (listWritten T out ≡ out))
     -- "Empty text: 3, line 1."
     ∷ (checkOf [] ≡ Refused 3 1)
     -- "T less its last line feed: 1, line 14."

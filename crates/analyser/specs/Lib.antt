@@ -1,3 +1,4 @@
 -- Document 01, "The six calls": what each call answers, as a function of its arguments.
 pub mod Calls
+pub mod Promises
 pub mod Examples

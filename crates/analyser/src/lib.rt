@@ -1,11 +1,12 @@
 // The analyser's calls. Each takes the text of a table.
 ghost use mathlib.Core.Path.{_≡_};
-ghost use Rattle.analyser.specs.Calls.{checkOf, lineOf, answerOf, witnessOf, listAnswerOf, listOf, listWritten, packed, winnerAnswerOf, winnerOf};
+ghost use Rattle.analyser.specs.Calls.{checkOf, lineOf, answerOf, witnessOf, listedOf, listOf, listWritten, packed, struckOf, strikeOf, strikeWritten, winnerAnswerOf, winnerOf};
 ghost use Rattle.policy.specs.Views.{packetOf};
 use policy::selector::Packet;
 use relations::group;
 use relations::group::Outcome;
 use relations::group::Probe;
+use striking::Written;
 use verdicts::Verdict;
 
 // What Check answers.
@@ -31,6 +32,12 @@ pub enum Witness {
 // What List answers: how many entries there are, or a refusal.
 pub enum Listed {
     Count(usize),
+    Refused { number: u8, line: u8 },
+}
+
+// What Strike answers: the length of the text that it writes, or a refusal.
+pub enum Struck {
+    Length(usize),
     Refused { number: u8, line: u8 },
 }
 
@@ -99,7 +106,7 @@ pub fn witness_of(text: &[u8], k: usize) -> Witness
 // Writes the entries of the table's anomalies into out from its start, three bytes each in ascending order: first row, kind, second number.
 // The rest of out is unchanged, and all of it where there is a refusal.
 pub fn list(text: &[u8], out: &mut [u8]) -> Listed
-    ensures answers { λ r. ⌜ listAnswerOf r ≡ listOf (now (text .entry)) (now (out .entry)) ⌝ }
+    ensures answers { λ r. ⌜ listedOf r ≡ listOf (now (text .entry)) (now (out .entry)) ⌝ }
     ensures writes { λ _. ⌜ now (out .exit) ≡ listWritten (now (text .entry)) (now (out .entry)) ⌝ }
 {
     let r = reader::read(text);
@@ -124,6 +131,24 @@ pub extern "C" fn lainukesk_list(text: &[u8], out: &mut [u8]) -> u64
     match list(text, out) {
         Listed::Count(n) => n as u64,
         Listed::Refused { number, line } => 65536 * number as u64 + line as u64,
+    }
+}
+
+// Writes the text without its dead rows' lines into out from its start. The rest of out is unchanged, and all of it where there is a refusal.
+pub fn strike(text: &[u8], out: &mut [u8]) -> Struck
+    ensures answers { λ r. ⌜ struckOf r ≡ strikeOf (now (text .entry)) (now (out .entry)) ⌝ }
+    ensures writes { λ _. ⌜ now (out .exit) ≡ strikeWritten (now (text .entry)) (now (out .entry)) ⌝ }
+{
+    let r = reader::read(text);
+    if r.number != 0 {
+        return Struck::Refused {
+            number: r.number,
+            line: r.line,
+        };
+    }
+    match striking::strike(text, r.table, out) {
+        Written::Length(n) => Struck::Length(n),
+        Written::Short => Struck::Refused { number: 8, line: 0 },
     }
 }
 

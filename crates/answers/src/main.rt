@@ -1,53 +1,56 @@
-// For each file that an argument names: the name, and what the calls answer of the text in it. Check's answer is the counts
-// of entities, filters and rows, two digits each, or ! and two digits each of number and line. Then Line's answer for each row, and List's
-// entries, six digits each.
+// Prints what every call answers. The arguments come in pairs: the name of a table's text, and that of a file of probes. A probe is a line of
+// 32 digits: the row that names the group, the two entities, and the packet (source and destination address, source and destination port,
+// protocol). A refusal is ! and two digits each of number and line. Of each pair are printed:
+// - the text's name, and Check's answer: the counts of entities, filters and rows, two digits each
+// - Line's answer for each row, and for one number more
+// - List's entries, six digits each
+// - Witness's answer for each row, and for one number more: dead, or the packet's digits
+// - Strike's text
+// - Winner's answer for each probe: the row's two digits, or none
+ghost use Rattle.io.specs.Counts.{Counts};
 use analyser::Checked;
 use analyser::Listed;
+use analyser::Struck;
+use analyser::Winner;
+use analyser::Witness;
 use libc::STDOUT_FILENO;
+use policy::number::Number;
+use policy::selector::Packet;
+use relations::group::Probe;
 
-fn put(b: u8) {
-    io::write_all(STDOUT_FILENO, &[hex::high_digit(b), hex::low_digit(b)]);
+fn put_text(text: &[u8]) {
+    io::write_all(STDOUT_FILENO, text);
 }
 
-// A count of at most 128.
+// A byte's two digits.
+fn put(b: u8) {
+    put_text(&[hex::high_digit(b), hex::low_digit(b)]);
+}
+
+// A count or a row's number, at most 128.
 fn put_count(n: usize) {
     put((n % 256) as u8);
 }
 
-fn put_line(text: &[u8], k: usize) {
-    io::write_all(STDOUT_FILENO, analyser::line(text, k));
-    io::write_all(STDOUT_FILENO, b"\n");
+fn put_two_bytes(n: u64) {
+    put((n / 256 % 256) as u8);
+    put((n % 256) as u8);
 }
 
-fn put_lines(text: &[u8], rows: usize) {
-    let mut k = 0;
-    while k < rows {
-        put_line(text, k);
-        k += 1;
-    }
+fn put_four_bytes(n: u64) {
+    put_two_bytes(n / 65536);
+    put_two_bytes(n % 65536);
 }
 
-// Three bytes a line.
-fn put_entries(entries: &[u8]) {
-    let mut at = 0;
-    while at + 2 < entries.len() {
-        put(entries[at]);
-        put(entries[at + 1]);
-        put(entries[at + 2]);
-        io::write_all(STDOUT_FILENO, b"\n");
-        at += 3;
-    }
+fn put_refusal(number: u8, line: u8) {
+    put_text(b"!");
+    put(number);
+    put(line);
+    put_text(b"\n");
 }
 
-fn put_list(text: &[u8]) {
-    let mut out = [0u8; 38400];
-    match analyser::list(text, &mut out) {
-        Listed::Count(n) => put_entries(&out[..3 * n]),
-        Listed::Refused { number: _, line: _ } => {}
-    }
-}
-
-fn answer(text: &[u8]) {
+// Prints the counts. Returns how many rows there are: 0 of a text that is refused.
+fn put_check(text: &[u8]) -> usize {
     match analyser::check(text) {
         Checked::Counts {
             entities,
@@ -57,44 +60,181 @@ fn answer(text: &[u8]) {
             put_count(entities);
             put_count(filters);
             put_count(rows);
-            io::write_all(STDOUT_FILENO, b"\n");
-            put_lines(text, rows);
-            put_list(text);
+            put_text(b"\n");
+            rows
         }
         Checked::Refused { number, line } => {
-            io::write_all(STDOUT_FILENO, b"!");
-            put(number);
-            put(line);
-            io::write_all(STDOUT_FILENO, b"\n");
+            put_refusal(number, line);
+            0
         }
     }
 }
 
-fn answer_file(path: &[u8]) {
+fn put_line(text: &[u8], k: usize) {
+    put_text(analyser::line(text, k));
+    put_text(b"\n");
+}
+
+fn put_lines(text: &[u8], rows: usize) {
+    let mut k = 0;
+    while k < rows {
+        put_line(text, k);
+        k += 1;
+    }
+    put_line(text, rows);
+}
+
+// Three bytes a line.
+fn put_entries(entries: &[u8]) {
+    let mut at = 0;
+    while at + 2 < entries.len() {
+        put(entries[at]);
+        put(entries[at + 1]);
+        put(entries[at + 2]);
+        put_text(b"\n");
+        at += 3;
+    }
+}
+
+fn put_list(text: &[u8]) {
+    let mut out = [0u8; 38400];
+    match analyser::list(text, &mut out) {
+        Listed::Count(n) => put_entries(&out[..3 * n]),
+        Listed::Refused { number, line } => put_refusal(number, line),
+    }
+}
+
+fn put_packet(p: Packet) {
+    put_four_bytes(p.source_address.word);
+    put_four_bytes(p.destination_address.word);
+    put_two_bytes(p.source_port.word);
+    put_two_bytes(p.destination_port.word);
+    put((p.protocol.word % 256) as u8);
+    put_text(b"\n");
+}
+
+fn put_witness(text: &[u8], k: usize) {
+    match analyser::witness_of(text, k) {
+        Witness::Dead => put_text(b"dead\n"),
+        Witness::Packet(p) => put_packet(p),
+        Witness::Refused { number, line } => put_refusal(number, line),
+    }
+}
+
+fn put_witnesses(text: &[u8], rows: usize) {
+    let mut k = 0;
+    while k < rows {
+        put_witness(text, k);
+        k += 1;
+    }
+    put_witness(text, rows);
+}
+
+fn put_strike(text: &[u8]) {
+    let mut out = io::large_buffer();
+    match analyser::strike(text, &mut out) {
+        Struck::Length(n) => put_text(&out[..n]),
+        Struck::Refused { number, line } => put_refusal(number, line),
+    }
+}
+
+// The probe that the line says, and the row that names the group.
+fn put_winner(text: &[u8], line: &[u8]) {
+    if line.len() != 32 {
+        return;
+    }
+    let packet = Packet {
+        source_address: Number::new(hex::number_at(line, 3, 4)),
+        destination_address: Number::new(hex::number_at(line, 7, 4)),
+        source_port: Number::new(hex::number_at(line, 11, 2)),
+        destination_port: Number::new(hex::number_at(line, 13, 2)),
+        protocol: Number::new(hex::number_at(line, 15, 1)),
+    };
+    let probe = Probe {
+        source: hex::u8_at(line, 1),
+        destination: hex::u8_at(line, 2),
+        packet,
+    };
+    match analyser::winner_of(text, hex::u8_at(line, 0) as usize, probe) {
+        Winner::Row(i) => {
+            put_count(i);
+            put_text(b"\n");
+        }
+        Winner::Nobody => put_text(b"none\n"),
+        Winner::Refused { number, line } => put_refusal(number, line),
+    }
+}
+
+// Lines of 32 digits and a line feed.
+fn put_winners(text: &[u8], probes: &[u8]) {
+    let mut at = 0;
+    while at + 32 < probes.len() {
+        put_winner(text, &probes[at..at + 32]);
+        at += 33;
+    }
+}
+
+fn answer(text: &[u8], probes: &[u8]) {
+    let rows = put_check(text);
+    put_lines(text, rows);
+    put_list(text);
+    put_witnesses(text, rows);
+    put_strike(text);
+    put_winners(text, probes);
+}
+
+// The file's descriptor; below 0, with a message, if it cannot be opened.
+fn open(path: &[u8]) -> i32 {
     let fd = os::open_read(path);
     if fd < 0 {
         os::fail(path);
-        return;
     }
-    let mut buffer = io::large_buffer();
-    let n = io::read_full(fd, &mut buffer);
-    libc::close(fd);
-    io::write_all(STDOUT_FILENO, path);
-    io::write_all(STDOUT_FILENO, b" ");
-    answer(&buffer[..n]);
+    fd
 }
 
-fn answer_argument(i: usize) {
-    let mut path = io::buffer();
-    let length = os::arg(i, &mut path);
-    answer_file(&path[..length]);
+// Reads the file to its end, or until buffer is full, and closes it. Returns how many bytes were read.
+fn read(fd: i32, buffer: &mut [u8]) -> usize
+    ensures { λ n. ⌜ Counts n (now (buffer .exit)) ⌝ }
+{
+    let n = io::read_full(fd, buffer);
+    libc::close(fd);
+    n
+}
+
+fn answer_files(text_path: &[u8], probes_path: &[u8]) {
+    let text_file = open(text_path);
+    if text_file < 0 {
+        return;
+    }
+    let probes_file = open(probes_path);
+    if probes_file < 0 {
+        libc::close(text_file);
+        return;
+    }
+    let mut text = io::large_buffer();
+    let n = read(text_file, &mut text);
+    let mut probes = io::buffer();
+    let m = read(probes_file, &mut probes);
+    put_text(text_path);
+    put_text(b" ");
+    answer(&text[..n], &probes[..m]);
+}
+
+fn answer_arguments(i: usize, j: usize) {
+    let mut text_path = io::buffer();
+    let n = os::arg(i, &mut text_path);
+    let mut probes_path = io::buffer();
+    let m = os::arg(j, &mut probes_path);
+    answer_files(&text_path[..n], &probes_path[..m]);
 }
 
 fn main() {
     let n = os::arg_count();
+    let mut left = n;
     let mut i = 1;
-    while i < n {
-        answer_argument(i);
-        i += 1;
+    while 2 < left {
+        answer_arguments(i, i + 1);
+        i += 2;
+        left -= 2;
     }
 }

@@ -19,7 +19,8 @@ pub fn digit(c: u8) -> u8
 pub fn byte(a: u8, b: u8) -> u8
     ensures { λ r. ⌜ r ≡ byteOf a b ⌝ }
 {
-    16 * (digit(a) % 16) + digit(b) % 16
+    let digits = table::DIGITS;
+    16 * (digits[a as usize] % 16) + digits[b as usize] % 16
 }
 
 // Whether a line is pairs of digits, at least one pair.
@@ -32,9 +33,11 @@ pub fn is_line(line: &[u8]) -> bool
     if line.len() % 2 != 0 {
         return false;
     }
+    let digits = table::DIGITS;
     let mut i = 0;
     while i < line.len() {
-        if digit(line[i]) >= 16 {
+        let c = line[i];
+        if digits[c as usize] >= 16 {
             return false;
         }
         i += 1;

@@ -12,8 +12,7 @@ use Rattle.relations.specs.Technologies.{layerOf, dominates}
 use Rattle.relations.specs.Coefficients.{atLeast}
 use Rattle.relations.specs.Selectors.{contains, overlaps, inhabited, meet, exchange, sameSelector}
 use Rattle.relations.specs.Groups.{sameGroup}
-use Rattle.search.specs.Search.{Answer, found, none}
-use Rattle.verdicts.specs.Verdicts.{verdictOn}
+use Rattle.verdicts.specs.Verdicts.{verdictOn, isNone}
 use Rattle.kinds.specs.Kinds.{sourceRoot, destinationRoot, noSecond}
 use Rattle.kinds.specs.Views.{Placed, placedAt}
 use Rattle.kinds.specs.declared.pair.Pair.{Pair}
@@ -36,10 +35,6 @@ twice (x ∷ xs) = among x xs || twice xs
 abbrev pub empty : List ℕ → Bool
 empty [] = true
 empty (x ∷ xs) = false
-
-abbrev pub isNone : Answer → Bool
-isNone none = true
-isNone (found p) = false
 
 -- ---- of one row
 

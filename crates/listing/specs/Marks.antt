@@ -11,10 +11,10 @@ use Rattle.policy.specs.Model.{Coefficients, Filter, Row}
 use Rattle.policy.specs.Views.{parentIn, rowIn, rowsIn, selectorIn}
 use Rattle.policy.specs.Wellformed.{Ordered}
 use Rattle.search.specs.Views.{bit}
-use Rattle.verdicts.specs.Verdicts.{verdictAfter}
+use Rattle.verdicts.specs.Verdicts.{verdictAfter, isNone}
 use Rattle.kinds.specs.Kinds.{noSecond}
 use Rattle.kinds.specs.Views.{placedIn}
-use Rattle.kinds.specs.Tests.{isNone, internalLoop, outOfPlace, nonEnforceable, inadequate, superfluous, filtered, layerTwo, asymmetric, cyclic, alternativePath, pairOf, pairTests}
+use Rattle.kinds.specs.Tests.{internalLoop, outOfPlace, nonEnforceable, inadequate, superfluous, filtered, layerTwo, asymmetric, cyclic, alternativePath, pairOf, pairTests}
 use Rattle.kinds.specs.Entries.{Entry, entry, gather}
 
 -- The tests as a number, the first as its last bit.

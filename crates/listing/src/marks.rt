@@ -4,12 +4,11 @@ ghost use mathlib.Core.List.{map};
 ghost use Prim.Native.Nat.{_≤_, _<_};
 ghost use lib.ListN.{getD};
 ghost use Rattle.policy.specs.Lists.{tabulate};
-ghost use Rattle.policy.specs.Views.{parentIn, rowOf, rowIn, rowsIn, coefficientsOf, filterIn};
+ghost use Rattle.policy.specs.Views.{parentIn, rowOf, rowIn, coefficientsOf, filterIn};
 ghost use Rattle.relations.specs.Entities.{Parents};
 ghost use Rattle.search.specs.Views.{bit as bitOf};
-ghost use Rattle.verdicts.specs.Verdicts.{verdictAfter};
 ghost use Rattle.kinds.specs.Views.{placedOf};
-ghost use Rattle.kinds.specs.Tests.{isNone, pairOf, pairTests};
+ghost use Rattle.kinds.specs.Tests.{pairOf, pairTests};
 ghost use Rattle.listing.specs.Marks.{number as numberOf, marked as markedTest, rowKinds, GoodRow, GoodRows, PairsMarked};
 use kinds::pair;
 use kinds::path;
@@ -22,7 +21,6 @@ use policy::table::Bounds;
 use policy::table::Heads;
 use policy::table::PerEntity;
 use relations::selector;
-use verdicts::Verdict;
 
 // A number for each row.
 pub type Marks = [u32; 64];
@@ -118,17 +116,6 @@ pub fn of_pairs<'a>(
     pairs
 }
 
-// Whether row i is dead.
-fn is_dead<'a>(parents: &'a PerEntity, heads: &'a Heads, bounds: &'a Bounds, i: usize) -> bool
-    requires { ⌜ Parents (now parents) × (i < 64) × GoodRow (rowIn (now heads) (now bounds) i) ⌝ }
-    ensures { λ r. ⌜ r ≡ isNone (verdictAfter (parentIn (now (parents .entry))) (rowsIn (now (heads .entry)) (now (bounds .entry)) i) (rowIn (now (heads .entry)) (now (bounds .entry)) i)) ⌝ }
-{
-    match verdicts::judge(parents, heads, bounds, i) {
-        Verdict::Packet(_) => false,
-        Verdict::Dead => true,
-    }
-}
-
 // The kinds of row i alone.
 pub fn of_row<'a>(
     parents: &'a PerEntity,
@@ -170,6 +157,6 @@ pub fn of_row<'a>(
         single::cyclic(p),
         false,
         path::alternative_path(bounds, from, to, rows, i),
-        is_dead(parents, heads, bounds, i),
+        verdicts::is_dead(parents, heads, bounds, i),
     ])
 }

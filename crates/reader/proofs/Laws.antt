@@ -8,3 +8,5 @@ pub mod Wellformed
 pub mod Alike
 pub mod Rows
 pub mod Texts
+pub mod Sequence
+pub mod Rules

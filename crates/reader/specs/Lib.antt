@@ -2,4 +2,5 @@
 pub mod Lines
 pub mod Frames
 pub mod States
+pub mod Rules
 pub mod Views

@@ -3,3 +3,5 @@ pub mod Kept
 pub mod Tables
 pub mod Struck
 pub mod Texts
+pub mod Copying
+pub mod Bytes

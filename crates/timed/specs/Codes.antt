@@ -1,7 +1,7 @@
 -- The calls' answers as numbers, for a caller that takes a number alone.
 -- Assumes nothing.
 use Prim.Native.Nat.{ℕ}
-use Rattle.analyser.specs.Calls.{WitnessAnswer, dead, packet, refusal, ListAnswer, count, listRefusal}
+use Rattle.analyser.specs.Calls.{WitnessAnswer, dead, packet, refusal}
 use Rattle.analyser.specs.declared.Checked.{Checked}
 use Rattle.analyser.specs.declared.Checked.the-variants.{Counts, Refused}
 
@@ -15,8 +15,3 @@ abbrev pub witnessCode : WitnessAnswer → ℕ
 witnessCode (packet p) = 0
 witnessCode dead = 1
 witnessCode (refusal number line) = 2
-
--- The count, or 65536 for a refusal.
-abbrev pub listCode : ListAnswer → ℕ
-listCode (count n) = n
-listCode (listRefusal number line) = 65536

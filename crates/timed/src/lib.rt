@@ -1,9 +1,9 @@
 // What the benchmark calls: a text and a row's number in, a number out.
 ghost use mathlib.Core.Path.{_≡_};
-ghost use Rattle.analyser.specs.Calls.{checkOf, witnessOf, listOf};
-ghost use Rattle.timed.specs.Codes.{checkCode, witnessCode, listCode};
+ghost use Rattle.analyser.specs.Calls.{checkOf, witnessOf, packed, strikeOf};
+ghost use Rattle.timed.specs.Codes.{checkCode, witnessCode};
 use analyser::Checked;
-use analyser::Listed;
+use analyser::Struck;
 use analyser::Witness;
 
 // 0 if the text is accepted, else 1.
@@ -33,13 +33,13 @@ pub extern "C" fn timed_witness(text: &[u8], k: usize) -> u64
     }
 }
 
-// How many entries the list has, or 65536 if there is a refusal.
+// The length of the struck text, or 65,536 times the refusal's number plus its line.
 #[no_mangle]
-pub extern "C" fn timed_list(text: &[u8], out: &mut [u8]) -> u64
-    ensures { λ n. ⌜ n ≡ listCode (listOf (now (text .entry)) (now (out .entry))) ⌝ }
+pub extern "C" fn timed_strike(text: &[u8], out: &mut [u8]) -> u64
+    ensures { λ n. ⌜ n ≡ packed (strikeOf (now (text .entry)) (now (out .entry))) ⌝ }
 {
-    match analyser::list(text, out) {
-        Listed::Count(n) => n as u64,
-        Listed::Refused { number: _, line: _ } => 65536,
+    match analyser::strike(text, out) {
+        Struck::Length(n) => n as u64,
+        Struck::Refused { number, line } => 65536 * number as u64 + line as u64,
     }
 }

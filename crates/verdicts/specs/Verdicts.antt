@@ -1,7 +1,7 @@
 -- Document 01, "Witness, of a row: either dead, or the least packet": the boxes that cover a row, and the verdict on it.
 -- Assumes nothing.
 use Prim.Native.Nat.{ℕ}
-use mathlib.Core.Bool.{Bool, _&&_}
+use mathlib.Core.Bool.{Bool, true, false, _&&_}
 use mathlib.Core.List.{List, [], _∷_}
 use lib.ListN.{take}
 use Rattle.hex.specs.Digits.{pick}
@@ -34,3 +34,8 @@ verdictOn t i = verdictAfter (parentOf t) (take i (t .rows)) (rowAt t i)
 abbrev pub answerOf : Verdict → Answer
 answerOf (Packet p) = found (packetOf p)
 answerOf Dead = none
+
+-- The verdict is dead.
+abbrev pub isNone : Answer → Bool
+isNone none = true
+isNone (found p) = false

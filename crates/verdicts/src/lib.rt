@@ -4,7 +4,7 @@ ghost use Prim.Native.Nat.{_<_};
 ghost use Rattle.policy.specs.Views.{parentIn, rowOf, rowIn, rowsIn};
 ghost use Rattle.relations.specs.Entities.{Parents};
 ghost use Rattle.search.specs.Views.{bit, boxesAt, Listed};
-ghost use Rattle.verdicts.specs.Verdicts.{covers as coversTest, coverOf, verdictAfter, answerOf};
+ghost use Rattle.verdicts.specs.Verdicts.{covers as coversTest, coverOf, verdictAfter, answerOf, isNone};
 use policy::row::Row;
 use policy::selector::Packet;
 use policy::table;
@@ -62,5 +62,16 @@ pub fn judge<'a>(parents: &'a PerEntity, heads: &'a Heads, bounds: &'a Bounds, i
     match search::search(bounds, i, cover(parents, heads, bounds, i)) {
         Found::Packet(p) => Verdict::Packet(p),
         Found::Nothing => Verdict::Dead,
+    }
+}
+
+// Whether row i is dead.
+pub fn is_dead<'a>(parents: &'a PerEntity, heads: &'a Heads, bounds: &'a Bounds, i: usize) -> bool
+    requires { ⌜ Parents (now parents) × (i < 64) × (rowIn (now heads) (now bounds) i .source < 128) × (rowIn (now heads) (now bounds) i .destination < 128) ⌝ }
+    ensures { λ r. ⌜ r ≡ isNone (verdictAfter (parentIn (now (parents .entry))) (rowsIn (now (heads .entry)) (now (bounds .entry)) i) (rowIn (now (heads .entry)) (now (bounds .entry)) i)) ⌝ }
+{
+    match judge(parents, heads, bounds, i) {
+        Verdict::Packet(_) => false,
+        Verdict::Dead => true,
     }
 }

@@ -7,17 +7,13 @@ use mathlib.Core.Path.{_≡_, refl, sym, ap, _∙_}
 use Prim.Native.Nat.{ℕ, _<_}
 use denote.Ref.{now}
 use lib.ListN.{length}
-use Rattle.policy.specs.Model.{Row, rowAt}
-use Rattle.policy.specs.Views.{tableOf, rowIn}
+use Rattle.policy.specs.Views.{tableOf}
 use Rattle.policy.specs.Wellformed.{Wellformed}
-use Rattle.policy.proofs.Laws.Runs.{row-of-rows}
-use Rattle.relations.specs.Entities.{Parents}
-use Rattle.relations.proofs.Laws.Tables.{lent-parents}
 use Rattle.reader.specs.States.{accepted, parse}
 use Rattle.reader.proofs.Laws.Readers.{table-sized, table-counted}
 use Rattle.reader.proofs.Laws.Wellformed.{accepted-wellformed}
 use Rattle.verdicts.specs.Verdicts.{verdictOn, answerOf as judged}
-use Rattle.verdicts.proofs.Laws.Tables.{lent-verdict}
+use Rattle.verdicts.proofs.Laws.Tables.{lent-verdict, lent-asked}
 use Rattle.analyser.specs.Calls.{witnessOf}
 use Rattle.analyser.proofs.witness_of.Statement.{statement}
 use Rattle.analyser.proofs.witness_of.Tie as tie
@@ -54,31 +50,6 @@ module _ (c : tie.Else2) where
       let h = c .if2 .left in
       omega arith
 
-  same-row : rowAt (tableOf (read .read .result .table)) k ≡ rowIn (read .read .result .table .heads) (read .read .result .table .bounds) k
-  same-row = row-of-rows (read .read .result .table .heads) (read .read .result .table .bounds) (read .read .result .table .rows) k (c .if2 .left)
-
-  -- what `judge` asks
-  small : k < 64
-  small = let n = row-there in let m = well .few-rows in omega arith
-
-  source-small : rowIn (read .read .result .table .heads) (read .read .result .table .bounds) k .source < 128
-  source-small =
-      let e = ap (λ (r : Row). r .source) same-row in
-      let h = well .row k row-there .source in
-      let n = well .few-entities in
-      omega arith
-
-  destination-small : rowIn (read .read .result .table .heads) (read .read .result .table .bounds) k .destination < 128
-  destination-small =
-      let e = ap (λ (r : Row). r .destination) same-row in
-      let h = well .row k row-there .destination in
-      let n = well .few-entities in
-      omega arith
-
-  parents : Parents (read .read .result .table .parents)
-  parents =
-      lent-parents (read .read .result .table) (table-sized (read .read .result) (read .read .ok)) (read .read .ensures .ready .held) well
-
 abbrev asked : tie.After-judge → tie.Else2
 asked c = c .before .before .before .before .before
 
@@ -110,7 +81,9 @@ witness-of-spec =
     (λ c κs. search needs)
     refused
     no-row
-    (λ c κs. let e = c .before .before .before .before in (parents e, small e, source-small e, destination-small e))
+    (λ c κs. let e = c .before .before .before .before in
+    let r = read e .read in
+    lent-asked (r .result .table) (table-sized (r .result) (r .ok)) (r .ensures .ready .held) (well e) (k e) (e .if2 .left))
     (λ c. c .match .keys1)
     (λ c. c .match .keys2)
     found-packet

@@ -5,8 +5,8 @@ use mathlib.Core.Path.{_≡_, sym, ap, _∙_}
 use native.Mathlib.Omega.{arith}
 use lib.ListN.{length, length-replicate}
 use lib.Seq.{length-take-le}
-use Rattle.analyser.specs.Calls.{listAnswerOf}
-use Rattle.analyser.proofs.Laws.Listings.{count-fits}
+use Rattle.analyser.specs.Calls.{listedOf}
+use Rattle.analyser.proofs.Laws.Outputs.{count-fits}
 use Rattle.answers.proofs.put_list.Statement.{statement}
 use Rattle.answers.proofs.put_list.Tie as tie
 
@@ -15,7 +15,7 @@ fits : (c : tie.After-known-told) → 3 * c .before .n .given .0 .0 ≤ 38400
 fits c =
     let l = c .before .before .before .before in
     let e = length-replicate {A = ℕ} 38400 0 in
-    let h = count-fits _ _ (c .before .n .given .0 .0) (sym (ap listAnswerOf (c .before .n .given .1)) ∙ l .list .ensures .0) in
+    let h = count-fits _ _ (c .before .n .given .0 .0) (sym (ap listedOf (c .before .n .given .1)) ∙ l .list .ensures .0) in
     omega arith
 
 -- the buffer is as long as it was
@@ -37,5 +37,6 @@ put-list-spec =
     (λ c. sym (length-take-le _ _ (room (c .before))))
     (λ c κs. search needs)
     (λ c. c .match .keys2)
+    (λ c κs. search needs)
     (λ c. search needs)
     (λ c. search needs))

@@ -1,16 +1,16 @@
 -- Laws of the rules of a frame's content:
 --   first-counted: how many entities there are so far
 --   isEntity-decides, isRoot-decides: the tests of numbers
---   inhabited-ordered: a selector in which some packet is
 --   entity-kept, filter-kept, row-kept: what a frame that is not refused keeps
+--   entity-passes, filter-passes, row-passes: a frame that keeps it is not refused
 -- Assumes nothing.
 use Prim.Native.Nat.{ℕ, zero, suc, _%_, _<_, _≤_}
 use mathlib.Core.Path.{_≡_, refl, sym, _∙_}
 use mathlib.Core.Logic.{inl, inr}
 use mathlib.Core.Bool.{Bool, true, false}
-use mathlib.Core.List.{List, [], _∷_, map}
+use mathlib.Core.List.{List, [], _∷_, _++_, map}
 use native.Mathlib.Omega.{arith}
-use borrow.Author.Tests.{leb-true, ltb-true, eqb-true, eq-eqb}
+use borrow.Author.Tests.{leb-true, ltb-true, eqb-true, le-leb, lt-ltb, eq-eqb, ne-eqb}
 use lib.Dec.{eqb, leb, ltb}
 use lib.ListN.{length, getD, take, length-map, List·getD-map, List·getD-append}
 use lib.Seq.{length-take-le, getD-append-seam}
@@ -20,13 +20,13 @@ use Rattle.policy.specs.Wellformed.{RootRule, OtherRule, EntityRule, IsEntity, 
 use Rattle.policy.proofs.Laws.Lists.{getD-default}
 use Rattle.relations.specs.Decides.{Decides}
 use Rattle.relations.specs.Lists.{among}
-use Rattle.relations.specs.Ranges.{inhabitedRange}
 use Rattle.relations.specs.Selectors.{inhabited}
-use Rattle.relations.proofs.Laws.Decides.{decides-as, decides-ltb, decides-eqb, decides-and}
+use Rattle.relations.proofs.Laws.Decides.{decides-as, decides-ltb, decides-eqb, decides-and, decides-holds}
 use Rattle.relations.proofs.Laws.Lists.{among-decides}
+use Rattle.relations.proofs.Laws.Selectors.{ordered-inhabited, inhabited-decides, inhabited-ordered}
 use Rattle.frames.specs.Checks.{or-else, refusal}
 use Rattle.frames.specs.Rules.{rootRule, otherRule, entityRule, isEntity, isRoot, allRoots, allZero, rowNumbers, nullRule, entityContent, filterContent, rowContent}
-use Rattle.frames.proofs.Laws.Checks.{both, refusal-none}
+use Rattle.frames.proofs.Laws.Checks.{both, refusal-none, none-broken, one-kept}
 
 -- The first n of 128 numbers, one for each entity, are n.
 pub first-counted : (n : ℕ) (l : List ℕ) → (length l ≡ 128) × (n ≤ 128) → length (take n l) ≡ n
@@ -88,13 +88,6 @@ module _ (t : Table) (e : Entity) where
 
 -- ---- filters
 
-pub inhabited-ordered : (s : Selector) → inhabited s ≡ true → Ordered s
-unfolding inhabited
-inhabited-ordered [] h = tt
-inhabited-ordered (r ∷ s) h =
-    let all = both (inhabitedRange r) _ h in
-    (leb-true _ _ (all .0), inhabited-ordered s (all .1))
-
 selector-kept : (s : Selector) → Fits widths s → inhabited s ≡ true → SelectorRule s
 selector-kept s fits h = record { ordered = inhabited-ordered s h; fits = fits }
 
@@ -151,3 +144,80 @@ module _ (t : Table) where
         few-gateways = few;
         gateways = gateways-kept (r .gateways) (technology .1);
       }
+
+-- ---- frames that keep the rules
+
+ordered-inhabits : (s : Selector) → Ordered s → inhabited s ≡ true
+ordered-inhabits s o = decides-holds (inhabited s) (inhabited-decides s) (ordered-inhabited s o)
+
+root-passes : (e : Entity) → RootRule e → rootRule e ≡ true
+root-passes e r = rw (eq-eqb _ _ (r .layer), eq-eqb _ _ (r .bit-0)) (lt-ltb _ _ (r .bit-7))
+
+-- An entity of a table, with those before it and after it.
+module _ (t : Table) (before after : List Entity) (e : Entity) (parts : t .entities ≡ before ++ (e ∷ after)) where
+  here : entityAt t (length before) ≡ e
+  here = rw parts (getD-append-seam before e after noEntity)
+
+  other-passes : e .parent < length before → OtherRule t (length before) → otherRule (map (λ x. x .layer) before) e ≡ true
+  other-passes earlier o =
+      let first = List·getD-append before (e ∷ after) noEntity (e .parent) earlier in
+      let there : entityAt t (e .parent) ≡ getD before (e .parent) noEntity = rw parts first in
+      rw (
+        decides-holds _ (among-decides (e .layer) (2 ∷ 3 ∷ 5 ∷ 7 ∷ [])) (rw here at (o .layer)),
+        length-map,
+        lt-ltb _ _ earlier,
+        own (λ x. x .layer) before (e .parent) earlier,
+        lt-ltb _ _ (rw (here, there) at (o .smaller)),
+      )
+      (eq-eqb _ _ (rw here at (o .mask)))
+
+  -- The parent of an entity that is no root is below FF.
+  rule-passes : length before ≤ noParent → EntityRule t (length before) → entityRule (map (λ x. x .layer) before) e ≡ true
+  unfolding entityRule
+  rule-passes few (inl r) = let root : RootRule e = rw here at r in rw (eq-eqb _ _ (root .parent)) (root-passes e root)
+  rule-passes few (inr o) =
+      let earlier : e .parent < length before = rw here at (o .earlier) in
+      rw (ne-eqb (e .parent) noParent (λ h. omega arith)) (other-passes earlier o)
+
+  pub entity-passes : length before ≤ noParent → EntityRule t (length before)
+      → refusal (entityContent (map (λ x. x .layer) before) e) ≡ 0
+  entity-passes few rule = one-kept (entityRule (map (λ x. x .layer) before) e) 4 [] (rule-passes few rule) none-broken
+
+pub filter-passes : (t : Table) (f : Filter) → FilterRule t f → refusal (filterContent (parentsOf t) f) ≡ 0
+filter-passes t f r =
+    one-kept (isRoot (parentsOf t) (f .root)) 5 _ (decides-holds _ (isRoot-decides t (f .root)) (r .root))
+    (one-kept (inhabited (f .selector)) 6 [] (ordered-inhabits (f .selector) (r .selector .ordered)) none-broken)
+
+zeros-pass : (c : Coefficients) → Below 1 c → allZero c ≡ true
+unfolding allZero
+zeros-pass [] h = refl
+zeros-pass (x ∷ c) h = rw (eq-eqb x 0 (omega (arith, h 0 (omega arith)))) (zeros-pass c (λ k l. h (suc k) (omega arith)))
+
+null-passes : (technology : ℕ) (c : Coefficients) → (technology ≡ 0 → Below 1 c) → nullRule technology c ≡ true
+unfolding nullRule
+null-passes zero c h = zeros-pass c (h refl)
+null-passes (suc n) c h = rw (ne-eqb (suc n) 0 (λ z. omega arith))
+
+module _ (t : Table) where
+  gateways-pass : (gs : List ℕ) → ((k : ℕ) → k < length gs → IsRoot t (getD gs k 0)) → allRoots (parentsOf t) gs ≡ true
+  unfolding allRoots
+  gateways-pass [] h = refl
+  gateways-pass (g ∷ gs) h =
+      rw (decides-holds _ (isRoot-decides t g) (h 0 (omega arith))) (gateways-pass gs (λ k l. h (suc k) (omega arith)))
+
+  numbers-pass : (r : Row) → RowRule t r → rowNumbers (parentsOf t) r ≡ true
+  unfolding rowNumbers
+  numbers-pass r h =
+      rw (
+        decides-holds _ (isRoot-decides t (r .holder)) (h .holder),
+        decides-holds _ (isEntity-decides t (r .source)) (h .source),
+        decides-holds _ (isEntity-decides t (r .destination)) (h .destination),
+        le-leb _ _ (h .technology),
+      )
+      (gateways-pass (r .gateways) (h .gateways))
+
+  pub row-passes : (r : Row) → RowRule t r → refusal (rowContent (parentsOf t) r) ≡ 0
+  row-passes r h =
+      one-kept (rowNumbers (parentsOf t) r) 5 _ (numbers-pass r h)
+      (one-kept (inhabited (r .selector)) 6 _ (ordered-inhabits (r .selector) (h .selector .ordered))
+      (one-kept (nullRule (r .technology) (r .coefficients)) 7 [] (null-passes (r .technology) (r .coefficients) (h .null)) none-broken))

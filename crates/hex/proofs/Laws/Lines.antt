@@ -4,17 +4,19 @@
 --   bytesOf-drop, bytesOf-take, bytesOf-part: the bytes of what is left of a line, of its start, of a part
 --   allDigits-next, allDigits-stop: whether the characters from a place on are digits, by the first of them
 --   line-length, bytesOf-line: a line has a first byte
+--   line-digits, feed-no-digit: a line is of digits, and a line feed is none
 -- Assumes nothing.
 use mathlib.Core.Path.{_≡_, refl}
-use mathlib.Core.Bool.{true, false, false≢true}
+use mathlib.Core.Bool.{true, false, not, _&&_, false≢true, and-eq-true-iff}
 use mathlib.Core.List.{List, [], _∷_}
-use Prim.Native.Nat.{ℕ, zero, suc, _+_, _*_, _/_, _<_, _≤_}
+use Prim.Native.Nat.{ℕ, zero, suc, _+_, _*_, _/_, _%_, _<_, _≤_}
 use native.Mathlib.Omega.{arith}
 use native.Mathlib.Numerals.{add-one}
 use borrow.Author.Tests.{lt-ltb, le-ltb}
+use lib.Dec.{eqb}
 use lib.Seq.{drop-cons}
 use lib.ListN.{length, getD, take, drop}
-use Rattle.hex.specs.Digits.{digitValue, byteOf}
+use Rattle.hex.specs.Digits.{digitValue, isDigit, byteOf}
 use Rattle.hex.specs.Lines.{allDigits, isLine, bytesOf}
 
 -- One place more is two characters more.
@@ -73,6 +75,18 @@ unfolding isLine
 line-length [] h = absurd (false≢true h)
 line-length (a ∷ []) h = absurd (false≢true h)
 line-length (a ∷ b ∷ l) h = omega arith
+
+pub line-digits : (l : List ℕ) → isLine l ≡ true → allDigits l ≡ true
+unfolding isLine
+line-digits l h =
+    let even = eqb (length l % 2) 0 in
+    let pairs = and-eq-true-iff (not (eqb (length l) 0)) (even && allDigits l) .0 h .1 in
+    and-eq-true-iff even (allDigits l) .0 pairs .1
+
+-- A line feed is no digit.
+pub feed-no-digit : isDigit 10 ≡ false
+unfolding digitValue
+feed-no-digit = refl
 
 -- The bytes of a line are its first byte, and then those of what follows its first two characters.
 pub bytesOf-line : (l : List ℕ) → isLine l ≡ true → bytesOf l ≡ getD (bytesOf l) 0 0 ∷ bytesOf (drop 2 l)

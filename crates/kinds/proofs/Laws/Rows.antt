@@ -19,11 +19,11 @@ use Rattle.relations.proofs.Laws.Lists.{among-decides, same-decides}
 use Rattle.relations.proofs.Laws.Coefficients.{atLeast-decides}
 use Rattle.relations.proofs.Laws.Selectors.{contains-decides, sameSelector-decides}
 use Rattle.search.specs.Search.{Answer, found, none}
-use Rattle.verdicts.specs.Verdicts.{verdictOn}
+use Rattle.verdicts.specs.Verdicts.{verdictOn, isNone}
 use Rattle.verdicts.proofs.Laws.Verdicts.{verdicts}
 use Rattle.kinds.specs.Kinds.{IsRow, sourceRoot, destinationRoot, InternalLoop, OutOfPlace, Lacks, NonEnforceable, Inadequate, Rides, Superfluous, Filtered, LayerTwo, Answers, Asymmetric, Cyclic}
 use Rattle.kinds.specs.Views.{placedAt}
-use Rattle.kinds.specs.Tests.{empty, isNone, internalLoop, outOfPlace, lacks, nonEnforceable, inadequate, rides, strictlyStronger, superfluous, filtered, layerTwo, answers, asymmetric, cyclic, dead}
+use Rattle.kinds.specs.Tests.{empty, internalLoop, outOfPlace, lacks, nonEnforceable, inadequate, rides, strictlyStronger, superfluous, filtered, layerTwo, answers, asymmetric, cyclic, dead}
 use Rattle.kinds.proofs.Laws.Lists.{Some, some-decides, inOrder-decides, twice-decides}
 use Rattle.kinds.proofs.Laws.Pairs.{selector-ordered}
 

@@ -5,13 +5,22 @@ use mathlib.Core.Path.{_≡_, refl, sym, ap, _∙_}
 use mathlib.Core.List.{List, [], _∷_, _++_, append-nil, append-assoc}
 use native.Mathlib.Numerals.{add-one}
 use native.Mathlib.Omega.{arith}
-use borrow.Author.Tests.{le-leb, lt-leb}
-use lib.ListN.{length, set, take, drop, length-append}
-use lib.Seq.{sets, sets-eq, take-length, take-append-seam}
+use lib.ListN.{length, take, drop, length-append}
+use lib.Seq.{sets, sets-eq, take-append-seam}
+use Rattle.hex.proofs.Laws.Outputs.{fits-not, written-not, fits-all, written-copied}
+use Rattle.policy.proofs.Laws.Lists.{sets-append}
 use Rattle.kinds.specs.Entries.{Entry, gather}
 use Rattle.kinds.proofs.Laws.Entries.{gather-next, gather-end}
 use Rattle.listing.specs.Bytes.{bytes, Put, Listing}
 use Rattle.listing.specs.declared.Listed.the-variants.{Count, Short}
+
+pub bytes-none : bytes [] ≡ []
+unfolding bytes
+bytes-none = refl
+
+pub bytes-more : (e : Entry) (es : List Entry) → bytes (e ∷ es) ≡ e .row ∷ e .kind ∷ e .second ∷ bytes es
+unfolding bytes
+bytes-more e es = refl
 
 pub length-bytes : (es : List Entry) → length (bytes es) ≡ 3 * length es
 unfolding bytes
@@ -22,13 +31,6 @@ bytes-append : (es fs : List Entry) → bytes (es ++ fs) ≡ bytes es ++ bytes f
 unfolding bytes
 bytes-append [] fs = refl
 bytes-append (e ∷ es) fs = rw (bytes-append es fs) refl
-
--- a run of stores, and one after it
-sets-append : (l : List ℕ) (i : ℕ) (vs ws : List ℕ) → sets l i (vs ++ ws) ≡ sets (sets l i vs) (i + length vs) ws
-sets-append l i [] ws = let e : i + 0 ≡ i = omega arith in ap (λ (k : ℕ). sets l k ws) (sym e)
-sets-append l i (v ∷ vs) ws =
-    let e : suc i + length vs ≡ i + suc (length vs) = omega arith in
-    sets-append (set l i v) (suc i) vs ws ∙ ap (λ (k : ℕ). sets (sets (set l i v) (suc i) vs) k ws) e
 
 pub put-none : (l : List ℕ) (n : ℕ) → Put l n l n []
 unfolding bytes
@@ -62,20 +64,14 @@ put-first {a} {b} {n} {es} p h =
 
 pub listing-short : (es : List Entry) (out : List ℕ) → length out < 3 * length es → Listing es out out Short
 listing-short es out h =
-    let e = lt-leb (3 * length es) (length out) h in
-    record { buffer = rw e refl; result = rw e refl }
+    let l : length out < length (bytes es) = omega (arith, length-bytes es) in
+    record { buffer = written-not (bytes es) out l; result = rw (fits-not (bytes es) out l) refl }
 
-pub listing-whole : (es : List Entry) (out after : List ℕ) (n : ℕ) → 3 * length es ≤ length out → n ≡ length es
-    → after ≡ bytes es ++ drop (3 * length es) out → Listing es out after (Count n)
-listing-whole es out after n h c a =
-    let e = le-leb (3 * length es) (length out) h in
-    record { buffer = rw e a; result = rw (e, c) refl }
-
-pub copied : (es : List Entry) (from out : List ℕ) → from ≡ bytes es → take (length from) from ++ drop (length from) out ≡ bytes es ++ drop (3 * length es) out
-copied es from out e =
-    ap (λ (l : List ℕ). take (length l) l ++ drop (length l) out) e
-    ∙ ap (λ (l : List ℕ). l ++ drop (length (bytes es)) out) (take-length (bytes es))
-    ∙ ap (λ (k : ℕ). bytes es ++ drop k out) (length-bytes es)
+pub listing-whole : (es : List Entry) (out from after : List ℕ) (n : ℕ) → 3 * length es ≤ length out → n ≡ length es → from ≡ bytes es
+    → after ≡ take (length from) from ++ drop (length from) out → Listing es out after (Count n)
+listing-whole es out from after n h c e a =
+    let l : length (bytes es) ≤ length out = omega (arith, length-bytes es) in
+    record { buffer = a ∙ written-copied (bytes es) out l from e; result = rw (fits-all (bytes es) out l, c) refl }
 
 -- ---- entries one after another
 

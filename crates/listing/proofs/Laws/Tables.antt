@@ -17,10 +17,11 @@ use Rattle.policy.proofs.Laws.Tables.{Sized, Counted, counted, mask-same, paren
 use Rattle.relations.specs.Entities.{rootOf}
 use Rattle.relations.proofs.Laws.Entities.{root-le}
 use Rattle.relations.proofs.Laws.Tables.{table-tree}
+use Rattle.verdicts.specs.Verdicts.{isNone}
 use Rattle.verdicts.proofs.Laws.Tables.{lent-verdict}
 use Rattle.kinds.specs.Kinds.{IsRow, sourceRoot, destinationRoot, noSecond}
 use Rattle.kinds.specs.Views.{placedAt, placedIn, endOf, Ends, Rooted}
-use Rattle.kinds.specs.Tests.{isNone, internalLoop, outOfPlace, nonEnforceable, inadequate, superfluous, filtered, layerTwo, asymmetric, cyclic, alternativePath, pairOf, pairTests, pairAt, tests, anomaly}
+use Rattle.kinds.specs.Tests.{internalLoop, outOfPlace, nonEnforceable, inadequate, superfluous, filtered, layerTwo, asymmetric, cyclic, alternativePath, pairOf, pairTests, pairAt, tests, anomaly}
 use Rattle.kinds.specs.declared.pair.Pair.{Pair}
 use Rattle.kinds.specs.Entries.{Entry, gather, listed, entries}
 use Rattle.kinds.proofs.Laws.Entries.{ofKind, ofRow, entries-rows, gather-same}

@@ -11,7 +11,7 @@ use Rattle.policy.specs.Views.{tableOf}
 use Rattle.kinds.specs.Entries.{Entry, entries}
 use Rattle.kinds.proofs.Laws.Few.{entries-few}
 use Rattle.listing.specs.Bytes.{bytes}
-use Rattle.listing.proofs.Laws.Puts.{put-first, listing-short, listing-whole, copied}
+use Rattle.listing.proofs.Laws.Puts.{put-first, listing-short, listing-whole}
 use Rattle.listing.proofs.list.Statement.{statement}
 use Rattle.listing.proofs.list.Tie as tie
 
@@ -51,8 +51,8 @@ returns c =
     let g = i .before in
     let n = count g in
     let h = i .if1 .left in
-    listing-whole (es g) (now (s g .args .out)) (k .copy .last .1 .0) (g .stage .result) (omega arith) n
-    (k .copy .ensures .1 ∙ copied (es g) (take (3 * g .stage .result) (g .stage .last .1 .0)) (now (s g .args .out)) (first g))
+    listing-whole (es g) (now (s g .args .out)) (take (3 * g .stage .result) (g .stage .last .1 .0)) (k .copy .last .1 .0) (g .stage .result) (omega arith) n
+    (first g) (k .copy .ensures .1)
 
 pub list-spec : {M : Type 1} → statement M
 list-spec =

@@ -1,13 +1,14 @@
 -- Laws of a list that is given by what stands at each place: its length, what stands at a place, that it goes by its places
 -- alone, one place more, and that a list is such a list of its own elements. Laws of what stands at a place: that below the
--- length it does not go by the default, of a thing that is repeated, and after a run of stores, outside the run and in it. A map,
--- and the first of a list, place by place.
+-- length it does not go by the default, of a thing that is repeated, after a store at the place that follows those filled, and after a run
+-- of stores, outside the run and in it. Two runs of stores, one after the other. A map, and the first of a list, place by place.
 -- Assumes nothing.
 use mathlib.Core.Path.{_≡_, refl, sym, ap, subst, _∙_}
 use mathlib.Core.List.{List, [], _∷_, _++_, map}
 use Prim.Native.Nat.{ℕ, zero, suc, _+_, _≤_, _<_}
 use native.Mathlib.Nat.{add-zero}
 use native.Mathlib.Numerals.{add-one}
+use native.Mathlib.Decide.{decLt}
 use native.Mathlib.Omega.{arith}
 use lib.ListN.{length, getD, take, set, replicate, length-set}
 use lib.Seq.{sets, length-take-le, getD-take, getD-set-same, getD-set-other}
@@ -83,6 +84,21 @@ module _ {A : Type 0} where
   getD-replicated zero a k = refl
   getD-replicated (suc n) a zero = refl
   getD-replicated (suc n) a (suc k) = getD-replicated n a k
+
+  -- At the first n places stands what f says; then it does at one place more.
+  pub filled-more : (d : A) (f : ℕ → A) (l : List A) (n : ℕ) (x : A) → n < length l → ((k : ℕ) → k < n → getD l k d ≡ f k) → x ≡ f n
+      → (k : ℕ) → k < n + 1 → getD (set l n x) k d ≡ f k
+  filled-more d f l n x h filled e k b =
+      elim (decLt k n) [
+        | yes m ↦ getD-set-other l n k x d (λ q. absurd (omega arith)) ∙ filled k m
+        | no m ↦ let q : k ≡ n = omega arith in rw q (getD-set-same l n x d h ∙ e)
+      ]
+
+  pub sets-append : (l : List A) (i : ℕ) (vs ws : List A) → sets l i (vs ++ ws) ≡ sets (sets l i vs) (i + length vs) ws
+  sets-append l i [] ws = let e : i + 0 ≡ i = omega arith in ap (λ (k : ℕ). sets l k ws) (sym e)
+  sets-append l i (v ∷ vs) ws =
+      let e : suc i + length vs ≡ i + suc (length vs) = omega arith in
+      sets-append (set l i v) (suc i) vs ws ∙ ap (λ (k : ℕ). sets (sets (set l i v) (suc i) vs) k ws) e
 
   pub getD-sets-outside : (l : List A) (i : ℕ) (vs : List A) (k : ℕ) (d : A) → ((c : ℕ) → c < length vs → k ≡ i + c → ⊥) → getD (sets l i vs) k d ≡ getD l k d
   getD-sets-outside l i [] k d h = refl

@@ -3,6 +3,7 @@
 --   tableWithRows, withRows, run-rows: such lines change the rows alone
 --   Split, rows-last: every run of lines is one that reads no row, and then the rows' lines
 --   Accepted, accepted-rows, accepted-row: so is an accepted text, and which line a row's is
+--   accepted-lines: how many lines it has
 --   accepted-other-rows: other rows in place of a text's own
 -- Assumes nothing.
 use mathlib.Core.Path.{_≡_, refl, ap, sym, _∙_}
@@ -255,6 +256,12 @@ module _ (text : List ℕ) (t : Table) (e : parse text ≡ accepted t) where
   early-kept =
       let s = accepted-rows text t e .split in
       rw (early-lines, s .parts, take-append-seam (s .early) (s .late))
+
+  -- Each line before the rows is an entity's, a cap's, the floor's or a filter's.
+  pub accepted-lines : length (linesOf text) ≡ length (t .entities) + length (t .caps) + 1 + length (t .filters) + length (t .rows)
+  accepted-lines =
+      let n = run-read (linesOf text) (length (linesOf text)) (record { table = t; floored = 1 }) (accepted-rows text t e .read) .lines in
+      omega arith
 
   -- The row at k is the line at k among the last lines, as many as there are rows.
   pub accepted-row : (k : ℕ) → k < length (t .rows)

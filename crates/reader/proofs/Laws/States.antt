@@ -10,6 +10,7 @@ use lib.ListN.{length-append}
 use borrow.Author.Tests.{ne-eqb}
 use Rattle.policy.specs.Model.{Entity, Coefficients, Filter, Row}
 use Rattle.frames.specs.Checks.{Check, or-else, refusal}
+use Rattle.frames.proofs.Laws.Checks.{refusal-holds, refusal-broken, one-kept}
 use Rattle.reader.specs.Frames.{Frame, anEntity, aCap, aFloor, aFilter, aRow, noFrame}
 use Rattle.reader.specs.States.{Progress, State, reading, refused, checks, grown, takeFrame, step, run}
 use Rattle.reader.specs.Views.{things}
@@ -18,21 +19,21 @@ use Rattle.reader.specs.Views.{things}
 
 module _ (n : ℕ) (p : Progress) where
   pub no-frame : takeFrame n p noFrame ≡ refused 2 (suc n)
-  unfolding takeFrame checks refusal
-  no-frame = refl
+  unfolding takeFrame checks
+  no-frame = rw (refusal-broken false 2 [] refl)
 
   module _ (f : Frame) (b : Bool) (cs : List Check) (e : checks p f ≡ or-else b 3 ∷ cs) where
     pub misplaced : b ≡ false → takeFrame n p f ≡ refused 3 (suc n)
-    unfolding takeFrame refusal
-    misplaced h = rw (e, h)
+    unfolding takeFrame
+    misplaced h = rw (e, refusal-broken b 3 cs h)
 
     pub broken : (k : ℕ) → b ≡ true → refusal cs ≡ k → (k ≡ 0 → ⊥) → takeFrame n p f ≡ refused k (suc n)
-    unfolding takeFrame refusal
-    broken k h q z = rw (e, h) (rw (q, ne-eqb k 0 z))
+    unfolding takeFrame
+    broken k h q z = rw (e, refusal-holds b 3 cs h, q, ne-eqb k 0 z)
 
     pub faultless : b ≡ true → refusal cs ≡ 0 → takeFrame n p f ≡ reading (suc n) (grown p f)
-    unfolding takeFrame refusal
-    faultless h q = rw (e, h) (rw q)
+    unfolding takeFrame
+    faultless h q = rw (e, one-kept b 3 cs h q)
 
 -- ---- the things tell the lines
 

@@ -6,17 +6,17 @@
 --   accepted-text-other-rows, accepted-text-more-rows: other rows in place of an accepted text's own, and rows after it
 -- Assumes nothing.
 use mathlib.Core.Path.{_≡_, refl, ap, sym, _∙_}
-use mathlib.Core.Bool.{true, not, _&&_, false≢true, and-eq-true-iff}
+use mathlib.Core.Bool.{true, false≢true, and-eq-true-iff}
 use mathlib.Core.List.{List, [], _∷_, _++_, append-nil, append-assoc}
-use Prim.Native.Nat.{ℕ, zero, suc, _+_, _-_, _%_, _≤_}
+use Prim.Native.Nat.{ℕ, zero, suc, _+_, _-_, _≤_}
 use native.Mathlib.Decide.{ℕ-discrete}
 use native.Mathlib.Omega.{arith}
 use borrow.Author.Tests.{ne-eqb}
-use lib.Dec.{eqb}
 use lib.ListN.{length, take}
 use lib.Seq.{append-snoc, take-all}
-use Rattle.hex.specs.Digits.{digitValue, isDigit}
+use Rattle.hex.specs.Digits.{isDigit}
 use Rattle.hex.specs.Lines.{allDigits, isLine}
+use Rattle.hex.proofs.Laws.Lines.{line-digits, feed-no-digit}
 use Rattle.policy.specs.Model.{Row, Table, parentsOf}
 use Rattle.reader.specs.Lines.{lineFeed, linesFrom, restFrom, linesOf, restOf, textOf}
 use Rattle.reader.specs.States.{Progress, reading, nothing, run, accepted, finish, parse}
@@ -115,18 +115,13 @@ lines-clean text =
 
 -- Digits are no line feeds.
 digits-clean : (l : List ℕ) → allDigits l ≡ true → NoFeed l
-unfolding digitValue
 digits-clean [] h = tt
 digits-clean (c ∷ l) h =
     let b = and-eq-true-iff (isDigit c) (allDigits l) .0 h in
-    ((λ e. false≢true (rw e at (b .0))), digits-clean l (b .1))
+    ((λ e. false≢true (sym feed-no-digit ∙ rw e at (b .0))), digits-clean l (b .1))
 
 pub line-clean : (l : List ℕ) → isLine l ≡ true → NoFeed l
-unfolding isLine
-line-clean l h =
-    let even = eqb (length l % 2) 0 in
-    let pairs = and-eq-true-iff (not (eqb (length l) 0)) (even && allDigits l) .0 h .1 in
-    digits-clean l (and-eq-true-iff even (allDigits l) .0 pairs .1)
+line-clean l h = digits-clean l (line-digits l h)
 
 rows-clean : (parents : List ℕ) (ls : List (List ℕ)) (rs : List Row) → RowFrames parents ls rs → AllNoFeed ls
 rows-clean parents [] [] h = tt

@@ -26,7 +26,7 @@ use Rattle.policy.specs.Wellformed.{EntityRule, IsEntity, IsRoot, CoefficientsR
 use Rattle.frames.specs.Checks.{Check, or-else, refusal}
 use Rattle.frames.specs.Values.{entityLength, capLength, floorLength, filterLength, rowLength}
 use Rattle.frames.specs.Rules.{entityContent, filterContent, rowContent}
-use Rattle.frames.proofs.Laws.Checks.{both, refusal-none}
+use Rattle.frames.proofs.Laws.Checks.{both, refusal-none, Numbered, refusal-most}
 use Rattle.frames.proofs.Laws.Values.{coefficients-rule, selector-fits, few-gateways}
 use Rattle.frames.proofs.Laws.Rules.{entity-kept, filter-kept, row-kept}
 use Rattle.reader.specs.Lines.{linesOf, restOf}
@@ -353,17 +353,7 @@ things-frame p (aFilter f) h = things-filter p f
 things-frame p (aRow r) h = things-row p r
 things-frame p noFrame h = absurd (never-none p h)
 
--- No condition of the list has a number above 7.
-abbrev Numbered : List Check → Type 0
-Numbered [] = Unit {0}
-Numbered (c ∷ cs) = (c .number ≤ 7) × Numbered cs
-
-refusal-most : (cs : List Check) → Numbered cs → refusal cs ≤ 7
-unfolding refusal
-refusal-most [] h = omega arith
-refusal-most (c ∷ cs) h = pick-either (λ n. n ≤ 7) (c .holds) _ _ (λ e. refusal-most cs (h .1)) (λ e. h .0)
-
-checks-numbered : (p : Progress) (f : Frame) → Numbered (checks p f)
+checks-numbered : (p : Progress) (f : Frame) → Numbered 7 (checks p f)
 unfolding checks
 checks-numbered p (anEntity e) = omega arith
 checks-numbered p (aCap n c) = omega arith
@@ -402,7 +392,7 @@ frame-sound n p f i r =
     record { lines = cc (r .lines, things-frame p f z); growing = growing-frame p f i (r .growing) z })
     (λ e.
     let z = eqb-false (refusal (checks p f)) 0 e in
-    omega (arith, next-small n p r, refusal-most (checks p f) (checks-numbered p f)))
+    omega (arith, next-small n p r, refusal-most 7 (checks p f) (checks-numbered p f)))
 
 line-sound : (s : State) (line : List ℕ) → Sound s → Sound (step s line)
 unfolding step

@@ -141,6 +141,11 @@ module _ (t : Table) (g a b : ℕ) (p : Packet) where
   decided-claim : (i : ℕ) → Decides (claims (rowAt t i)) (SameGroup (rowAt t i) (rowAt t g) × Matches (parentOf t) (rowAt t i) a b p)
   decided-claim i = candidate-decides (parentOf t) (rowAt t g) a b p (rowAt t i)
 
+  -- Row g names the group by the row that it is.
+  pub winner-group : winner t g a b p ≡ winnerFrom (parentOf t) (rowAt t g) a b p 0 (t .rows)
+  unfolding winnerIn
+  winner-group = refl
+
   -- Row i is the winner that the group of row g has exactly when it is of the group and wins.
   pub winner-wins : (i : ℕ) → (winner t g a b p ≡ Won i) ↔ (SameGroup (rowAt t i) (rowAt t g) × Wins t i a b p)
   unfolding winnerIn

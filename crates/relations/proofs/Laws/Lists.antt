@@ -23,6 +23,10 @@ among-decides x (y ∷ ys) =
     decides-as (λ s. elim s [ inl e ↦ List·Memᴰ·head e | inr m ↦ List·Memᴰ·tail m ]) List·Memᴰ·cases-cons
     (decides-or (eqb x y) (among x ys) (decides-eqb x y) (among-decides x ys))
 
+pub among-nil : (x : ℕ) → among x [] ≡ false
+unfolding among
+among-nil x = refl
+
 pub among-cons : (x y : ℕ) (ys : List ℕ) → among x (y ∷ ys) ≡ (eqb x y || among x ys)
 unfolding among
 among-cons x y ys = refl

@@ -3,9 +3,11 @@
 -- Assumes nothing.
 use mathlib.Core.Path.{_≡_, refl, sym, ap, _∙_}
 use mathlib.Core.Logic.{_↔_, inl, inr}
+use mathlib.Core.Bool.{true, and-eq-true-iff}
 use mathlib.Core.List.{List, [], _∷_, List·Memᴰ, List·Memᴰ·head, List·Memᴰ·tail, List·Memᴰ·not-nil, List·Memᴰ·cases-cons}
 use Prim.Native.Nat.{ℕ, suc, _≤_, max}
 use native.Mathlib.Omega.{arith}
+use borrow.Author.Tests.{leb-true}
 use lib.Dec.{leb, eqb}
 use lib.ListN.{length}
 use Rattle.policy.specs.Model.{Range, Selector, Packet}
@@ -177,6 +179,13 @@ inhabited-decides (r ∷ s) =
 
     less : Inhabited (r ∷ s) → (r .low ≤ r .high) × Inhabited s
     less c = in-field (c .0) (c .1)
+
+pub inhabited-ordered : (s : Selector) → inhabited s ≡ true → Ordered s
+unfolding inhabited
+inhabited-ordered [] h = tt
+inhabited-ordered (r ∷ s) h =
+    let all = and-eq-true-iff (inhabitedRange r) (inhabited s) .0 h in
+    (leb-true (r .low) (r .high) (all .0), inhabited-ordered s (all .1))
 
 -- ---- several selectors that meet
 

@@ -1,4 +1,4 @@
--- The verdict from the runs that a table lends is the verdict on the table's row.
+-- The verdict from the runs that a table lends is the verdict on the table's row. What a verdict asks of them, a well-formed table keeps.
 -- Assumes nothing.
 use mathlib.Core.Path.{_≡_, sym, ap, _∙_}
 use mathlib.Core.List.{List}
@@ -8,10 +8,13 @@ use lib.ListN.{take}
 use lib.Seq.{length-take-le, getD-take}
 use Rattle.policy.specs.Model.{Row, noRow, parentOf}
 use Rattle.policy.specs.Views.{parentIn, rowIn, rowsIn, tableOf, Held}
+use Rattle.policy.specs.Wellformed.{Wellformed}
 use Rattle.policy.specs.declared.table.Table.{Table as TableStruct}
 use Rattle.policy.proofs.Laws.Lists.{tabulate-counted}
 use Rattle.policy.proofs.Laws.Runs.{length-rows, row-of-rows}
 use Rattle.policy.proofs.Laws.Tables.{Sized, parents-same}
+use Rattle.relations.specs.Entities.{Parents}
+use Rattle.relations.proofs.Laws.Tables.{lent-parents}
 use Rattle.verdicts.specs.Verdicts.{verdictAfter, verdictOn}
 
 -- The first i rows of more.
@@ -32,3 +35,13 @@ lent-verdict t s held i h =
     (rows-before (t .heads) (t .bounds) i (t .rows) (omega arith))
     ∙ ap (λ (r : Row). verdictAfter (parentOf (tableOf t)) (take i (tableOf t .rows)) r)
     (sym (row-of-rows (t .heads) (t .bounds) (t .rows) i h))
+
+pub lent-asked : (t : TableStruct) → Sized t → Held t → Wellformed (tableOf t) → (i : ℕ) → i < t .rows
+    → Parents (t .parents) × (i < 64) × (rowIn (t .heads) (t .bounds) i .source < 128) × (rowIn (t .heads) (t .bounds) i .destination < 128)
+lent-asked t s held w i h =
+    let n = length-rows (t .heads) (t .bounds) (t .rows) in
+    let e = row-of-rows (t .heads) (t .bounds) (t .rows) i h in
+    let r = w .row i (omega arith) in
+    let f = ap (λ (q : Row). q .source) e in
+    let g = ap (λ (q : Row). q .destination) e in
+    (lent-parents t s held w, omega (arith, held .rows), omega (arith, r .source, w .few-entities), omega (arith, r .destination, w .few-entities))

@@ -4,12 +4,11 @@ use Prim.Native.Nat.{ℕ, _+_, _-_, _≤_, _<_}
 use mathlib.Core.Path.{_≡_, refl, ap, _∙_}
 use mathlib.Core.Bool.{Bool}
 use mathlib.Core.List.{List}
-use native.Mathlib.Decide.{decLt}
 use native.Mathlib.Omega.{arith}
 use denote.Ref.{now}
-use lib.ListN.{length, getD, set, length-set}
-use lib.Seq.{getD-set-same, getD-set-other}
+use lib.ListN.{length, set, length-set}
 use Rattle.policy.specs.Views.{parentIn, rowIn}
+use Rattle.policy.proofs.Laws.Lists.{filled-more}
 use Rattle.relations.specs.Entities.{rootOf}
 use Rattle.kinds.specs.Views.{endOf, Rooted}
 use Rattle.kinds.proofs.placed.roots_of.Statement.{statement}
@@ -24,13 +23,8 @@ abbrev μ : tie.MeasureT-loop
 -- one root more
 rooted-more : (parents heads bounds at : List ℕ) (i x : ℕ) (source : Bool) → i < length at → Rooted parents heads bounds i source at
     → x ≡ rootOf (parentIn parents) (endOf source (rowIn heads bounds i)) → Rooted parents heads bounds (i + 1) source (set at i x)
-rooted-more parents heads bounds at i x source h r e = record { root = λ k b. at-place k b (decLt k i) }
-  where
-    at-place : (k : ℕ) → k < i + 1 → Dec (k < i) → getD (set at i x) k 0 ≡ rootOf (parentIn parents) (endOf source (rowIn heads bounds k))
-    at-place k b (yes m) = getD-set-other at i k x 0 (λ d. absurd (omega arith)) ∙ r .root k m
-    at-place k b (no m) =
-        let d : k ≡ i = omega arith in
-        rw d (getD-set-same at i x 0 h ∙ e)
+rooted-more parents heads bounds at i x source h r e =
+    record { root = filled-more 0 (λ k. rootOf (parentIn parents) (endOf source (rowIn heads bounds k))) at i x h (r .root) e }
 
 again : tie.Need-loop-again I μ
 again c =

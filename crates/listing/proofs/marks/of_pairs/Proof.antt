@@ -3,12 +3,11 @@ use borrow.Author.Needs.{needs}
 use Prim.Native.Nat.{ℕ, _+_, _-_, _≤_, _<_}
 use mathlib.Core.Path.{_≡_, refl, sym, subst, _∙_}
 use mathlib.Core.List.{List}
-use native.Mathlib.Decide.{decLt}
 use native.Mathlib.Omega.{arith}
 use denote.Ref.{now}
-use lib.ListN.{length, getD, set, length-set}
-use lib.Seq.{getD-set-same, getD-set-other}
+use lib.ListN.{length, set, length-set}
 use Rattle.policy.specs.Views.{parentIn}
+use Rattle.policy.proofs.Laws.Lists.{filled-more}
 use Rattle.kinds.specs.Views.{Placed, placedIn}
 use Rattle.kinds.specs.Tests.{pairOf, pairTests}
 use Rattle.listing.specs.Marks.{number, GoodRow, PairsMarked}
@@ -26,12 +25,12 @@ abbrev μ : tie.MeasureT-loop
 marked-more : (parents heads bounds from to pairs : List ℕ) (i j x : ℕ) → j < length pairs → PairsMarked parents heads bounds from to j i pairs
     → x ≡ number (pairTests (pairOf (parentIn parents) i j (placedIn heads bounds from to i) (placedIn heads bounds from to j)))
     → PairsMarked parents heads bounds from to (j + 1) i (set pairs j x)
-marked-more parents heads bounds from to pairs i j x h r e = record { at = λ k b. at-place k b (decLt k j) }
-  where
-    at-place : (k : ℕ) → k < j + 1 → Dec (k < j)
-        → getD (set pairs j x) k 0 ≡ number (pairTests (pairOf (parentIn parents) i k (placedIn heads bounds from to i) (placedIn heads bounds from to k)))
-    at-place k b (yes m) = getD-set-other pairs j k x 0 (λ d. absurd (omega arith)) ∙ r .at k m
-    at-place k b (no m) = let d : k ≡ j = omega arith in rw d (getD-set-same pairs j x 0 h ∙ e)
+marked-more parents heads bounds from to pairs i j x h r e =
+    record {
+      at =
+          filled-more 0 (λ k. number (pairTests (pairOf (parentIn parents) i k (placedIn heads bounds from to i) (placedIn heads bounds from to k)))) pairs j x h
+          (r .at) e;
+    }
 
 asked : tie.Need-of-pair-requires I μ
 asked c κs =

@@ -70,6 +70,6 @@ of-row-spec =
     (λ c κs. let s = c .before .before .before .before .before .before .before .before .before .before .before .before .before in (s .pre .2, s .pre .3))
     (λ c κs. search needs)
     (λ c κs. let s = c .before .before .before .before .before .before .before .before .before .before .before .before .before .before .before in (s .pre .2, s .pre .3))
-    (λ c κs. let s = c .before .before .before .before .before .before .before .before .before .before .before .before .before .before .before .before in (s .pre .0, s .pre .3, s .pre .1))
+    (λ c κs. let s = c .before .before .before .before .before .before .before .before .before .before .before .before .before .before .before .before in (s .pre .0, s .pre .3, s .pre .1 .source, s .pre .1 .destination))
     (λ c κs. search needs)
     returns)

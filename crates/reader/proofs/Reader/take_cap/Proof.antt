@@ -10,7 +10,7 @@ use lib.Dec.{eqb, ltb}
 use lib.ListN.{length}
 use Rattle.hex.specs.Lines.{bytesOf}
 use Rattle.policy.specs.Views.{withCap, tableOf}
-use Rattle.frames.specs.Checks.{refusal}
+use Rattle.frames.proofs.Laws.Checks.{none-broken}
 use Rattle.frames.specs.Values.{capLength, capTechnology, capFrom}
 use Rattle.reader.specs.Frames.{frameOfKind}
 use Rattle.reader.specs.States.{Progress, mayCap, grown}
@@ -70,7 +70,7 @@ misplaced c =
     by-sequence (taking s) (things (p s)) (long (m .before .before)) (may m ∙ not-true _ (c .before .if2 .taken)) (c .refuse2 .ensures)
 
 taken : tie.Need-returns-3
-unfolding grown refusal
+unfolding grown
 taken c =
     let w = c .before in
     let e = w .before .before .before in
@@ -78,7 +78,7 @@ taken c =
     let s = asked (m .before .before) in
     let t = s .args .self in
     let v = capFrom (bs s) in
-    by-none (taking s) (things (p s)) (long (m .before .before)) (may m ∙ not-false _ (e .if2 .left)) refl
+    by-none (taking s) (things (p s)) (long (m .before .before)) (may m ∙ not-false _ (e .if2 .left)) none-broken
     (rw (c .holding .ensures)
     (reads _ (withCap v (tableOf (t .table))) (t .floored) (suc (things (p s))) refl
     (rw (w .before .read .ensures) at (w .with-cap .ensures)) refl (s .pre .0 .floored) (things-cap (p s) (capTechnology (bs s)) v)))

@@ -10,7 +10,7 @@ use lib.Dec.{eqb}
 use lib.ListN.{length}
 use Rattle.hex.specs.Lines.{bytesOf}
 use Rattle.policy.specs.Views.{withFloor, tableOf}
-use Rattle.frames.specs.Checks.{refusal}
+use Rattle.frames.proofs.Laws.Checks.{none-broken}
 use Rattle.frames.specs.Values.{floorLength, floorFrom}
 use Rattle.reader.specs.Frames.{frameOfKind}
 use Rattle.reader.specs.States.{Progress, mayFloor, grown}
@@ -69,7 +69,7 @@ misplaced c =
     by-sequence (taking s) (things (p s)) (long (m .before)) (may m ∙ not-true _ (c .before .if2 .taken)) (c .refuse2 .ensures)
 
 taken : tie.Need-returns-3
-unfolding grown refusal
+unfolding grown
 taken c =
     let w = c .before in
     let e = w .before .before .before in
@@ -77,7 +77,7 @@ taken c =
     let s = asked (m .before) in
     let t = s .args .self in
     let v = floorFrom (bs s) in
-    by-none (taking s) (things (p s)) (long (m .before)) (may m ∙ not-false _ (e .if2 .left)) refl
+    by-none (taking s) (things (p s)) (long (m .before)) (may m ∙ not-false _ (e .if2 .left)) none-broken
     (rw (c .holding .ensures)
     (reads _ (withFloor v (tableOf (t .table))) 1 (suc (things (p s))) refl
     (rw (w .before .read .ensures) at (w .with-floor .ensures)) refl (search needs) (things-floor (p s) v (before e))))

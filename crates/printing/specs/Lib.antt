@@ -1,0 +1,2 @@
+-- Document 01, "Programs": what rowlist and strike print of their input.
+pub mod Printed

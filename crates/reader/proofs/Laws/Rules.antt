@@ -1,0 +1,115 @@
+-- Demand 1, "Every text that keeps the table rules of document 01 is accepted", and no other:
+--   accepted-exactly: the reader accepts a text as a table exactly when the text keeps the rules and says the table
+--   one-table: no text says two tables
+--   refused-otherwise: a text that says no table is refused
+-- Assumes nothing.
+use mathlib.Core.Path.{_≡_, refl, ap, sym, _∙_}
+use mathlib.Core.Logic.{_↔_, inl, inr}
+use mathlib.Core.Bool.{true}
+use mathlib.Core.List.{List, [], _∷_, _++_, map, append-nil, List·Memᴰ, List·Memᴰ·head, List·Memᴰ·tail, List·Memᴰ·not-nil, List·Memᴰ·cases-cons}
+use Prim.Native.Nat.{ℕ, suc}
+use native.Mathlib.Omega.{arith}
+use borrow.Author.Tests.{eqb-true}
+use lib.Dec.{eqb}
+use lib.Seq.{append-snoc}
+use Rattle.hex.specs.Lines.{isLine, bytesOf}
+use Rattle.policy.specs.Model.{Table}
+use Rattle.frames.specs.Checks.{refusal}
+use Rattle.reader.specs.Lines.{linesOf, restOf}
+use Rattle.reader.specs.Frames.{Frame, frameOf}
+use Rattle.reader.specs.States.{Progress, reading, refused, nothing, checks, grown, takeFrame, step, run, Parsed, accepted, refusedAt, finish, parse}
+use Rattle.reader.specs.Rules.{KeepsRules}
+use Rattle.reader.proofs.Laws.States.{run-refused}
+use Rattle.reader.proofs.Laws.Runs.{pick-either}
+use Rattle.reader.proofs.Laws.Wellformed.{Growing, growing-nothing, growing-frame, in-range, accepted-wellformed}
+use Rattle.reader.proofs.Laws.Rows.{accepted-rows}
+use Rattle.reader.proofs.Laws.Sequence.{empty, framesSoFar, so-far-more, Leads, leads-table}
+
+abbrev frame : List ℕ → Frame
+frame l = frameOf (bytesOf l)
+
+abbrev Digits : List (List ℕ) → Type 0
+Digits ls = (l : List ℕ) → List·Memᴰ l ls → isLine l ≡ true
+
+-- ---- an accepted text keeps the rules
+
+-- The lines are pairs of digits, and their frames take what is read so far from p to q.
+record Told (p : Progress) (ls : List (List ℕ)) (q : Progress) : Type 0 where
+  digits : Digits ls
+  frames : framesSoFar p ++ map frame ls ≡ framesSoFar q
+
+-- A refusal leads nowhere.
+stays-refused : (k n m : ℕ) (q : Progress) (ls : List (List ℕ)) → run (refused k n) ls ≡ reading m q → ⊥
+stays-refused k n m q ls e =
+    let clash : refused k n ≡ reading m q = sym (run-refused k n ls) ∙ e in
+    let z : _≡_ {A = ℕ} 0 1 = cc in
+    omega arith
+
+-- One line more, before the others.
+told-more : (p : Progress) (l : List ℕ) (ls : List (List ℕ)) (q : Progress) → isLine l ≡ true → Growing p
+    → refusal (checks p (frame l)) ≡ 0 → Told (grown p (frame l)) ls q → Told p (l ∷ ls) q
+told-more p l ls q i g z told =
+    record {
+      digits = λ m h. elim (List·Memᴰ·cases-cons h) [ inl e ↦ rw e i | inr k ↦ told .digits m k ];
+      frames = sym (append-snoc (framesSoFar p) (frame l) (map frame ls))
+          ∙ ap (λ fs. fs ++ map frame ls) (sym (so-far-more p (frame l) (in-range l) g z)) ∙ told .frames;
+    }
+
+run-told : (ls : List (List ℕ)) (n m : ℕ) (p q : Progress) → Growing p → run (reading n p) ls ≡ reading m q → Told p ls q
+unfolding run step takeFrame
+run-told [] n m p q g e =
+    let same : p ≡ q = cc in
+    record { digits = λ l h. absurd (List·Memᴰ·not-nil h); frames = append-nil (framesSoFar p) ∙ ap framesSoFar same }
+run-told (l ∷ ls) n m p q g e =
+    pick-either (λ s. run s ls ≡ reading m q → Told p (l ∷ ls) q) (isLine l) _ _
+    (λ i. pick-either (λ s. run s ls ≡ reading m q → Told p (l ∷ ls) q) (eqb (refusal (checks p (frame l))) 0) _ _
+    (λ z x.
+    let kept = eqb-true (refusal (checks p (frame l))) 0 z in
+    told-more p l ls q i g kept (run-told ls (suc n) m (grown p (frame l)) q (growing-frame p (frame l) (in-range l) g kept) x))
+    (λ z x. absurd (stays-refused _ _ m q ls x)))
+    (λ i x. absurd (stays-refused _ _ m q ls x))
+    e
+
+accepted-keeps : (text : List ℕ) (t : Table) → parse text ≡ accepted t → KeepsRules text t
+accepted-keeps text t e =
+    let a = accepted-rows text t e in
+    let told = run-told (linesOf text) 0 _ nothing (record { table = t; floored = 1 }) growing-nothing (a .read) in
+    record {
+      ended = empty (restOf text) (a .ended);
+      digits = told .digits;
+      frames = told .frames;
+      well = accepted-wellformed text t e;
+    }
+
+-- ---- a text that keeps the rules is accepted
+
+-- Lines of digits whose frames lead from p to q are read so.
+run-leads : (ls : List (List ℕ)) (n : ℕ) (p q : Progress) → Digits ls → Leads p (map frame ls) q
+    → (m : ℕ) × (run (reading n p) ls ≡ reading m q)
+unfolding run step takeFrame
+run-leads [] n p q d h = (n, ap (reading n) h)
+run-leads (l ∷ ls) n p q d h =
+    rw (d l (List·Memᴰ·head refl), h .0) (run-leads ls (suc n) (grown p (frame l)) q (λ m k. d m (List·Memᴰ·tail k)) (h .1))
+
+keeps-accepted : (text : List ℕ) (t : Table) → KeepsRules text t → parse text ≡ accepted t
+unfolding parse finish
+keeps-accepted text t k =
+    let p : Progress = record { table = t; floored = 1 } in
+    let h : Leads nothing (map frame (linesOf text)) p = rw (k .frames) (leads-table t (k .well)) in
+    rw (run-leads (linesOf text) 0 nothing p (k .digits) h .1, k .ended)
+
+-- ---- the theorem
+
+pub accepted-exactly : (text : List ℕ) (t : Table) → (parse text ≡ accepted t) ↔ KeepsRules text t
+accepted-exactly text t = (accepted-keeps text t, keeps-accepted text t)
+
+pub one-table : (text : List ℕ) (t u : Table) → KeepsRules text t → KeepsRules text u → t ≡ u
+one-table text t u h k = cc (keeps-accepted text t h, keeps-accepted text u k)
+
+pub refused-otherwise : (text : List ℕ) → ((t : Table) → KeepsRules text t → ⊥)
+    → (number : ℕ) × (line : ℕ) × (parse text ≡ refusedAt number line)
+refused-otherwise text none = go (parse text) refl
+  where
+    go : (x : Parsed) → parse text ≡ x → (number : ℕ) × (line : ℕ) × (parse text ≡ refusedAt number line)
+    go (accepted t) e = absurd (none t (accepted-keeps text t e))
+    go (refusedAt number line) e = (number, line, e)

@@ -1,0 +1,69 @@
+-- `dead_rows` meets its contract: at the places before i stands whether each row is dead. Assumes nothing.
+use borrow.Author.Needs.{needs}
+use Prim.Native.Nat.{ℕ, _-_, _≤_, _<_}
+use mathlib.Core.Path.{_≡_, refl, ap, _∙_}
+use mathlib.Core.Bool.{false}
+use native.Mathlib.Omega.{arith}
+use lib.ListN.{length, getD, length-set}
+use Rattle.policy.specs.Views.{tableOf}
+use Rattle.policy.proofs.Laws.Lists.{filled-more}
+use Rattle.policy.proofs.Laws.Runs.{length-rows}
+use Rattle.policy.proofs.Laws.Tables.{Sized, sized}
+use Rattle.verdicts.specs.Verdicts.{isNone}
+use Rattle.verdicts.proofs.Laws.Tables.{lent-verdict, lent-asked}
+use Rattle.kinds.specs.Tests.{dead}
+use Rattle.striking.proofs.dead_rows.Statement.{statement}
+use Rattle.striking.proofs.dead_rows.Tie as tie
+
+abbrev I : tie.InvT-loop
+I t dead₀ i₀ flags i = (i ≤ t .rows) × ((length flags ≡ 64) × ((k : ℕ) → k < i → getD flags k false ≡ dead (tableOf t) k))
+
+abbrev μ : tie.MeasureT-loop
+μ t dead₀ i₀ flags i = t .rows - i
+
+size : (s : tie.Start I μ) → Sized (s .args .t1)
+size s = sized (s .args .t1) (s .good .0)
+
+asked : tie.Need-is-dead-requires I μ
+asked c κs =
+    let l = c .before .before .before .before .before in
+    let s = l .before in
+    lent-asked (s .args .t1) (size s) (s .pre .0) (s .pre .1) (l .loop .i) (c .before .before .before .before .loop-test .taken)
+
+again : tie.Need-loop-again I μ
+again c =
+    let l = c .before .before .before .before .before .before in
+    let s = l .before in
+    let t = s .args .t1 in
+    let h = c .before .before .before .before .before .loop-test .taken in
+    let n = s .pre .0 .rows in
+    let m = l .loop .inv .1 .0 in (
+      omega arith,
+      (
+        length-set (l .loop .dead) (l .loop .i) (c .is-dead .result) ∙ m,
+        filled-more false (dead (tableOf t)) (l .loop .dead) (l .loop .i) (c .is-dead .result) (omega arith) (l .loop .inv .1 .1)
+            (c .is-dead .ensures ∙ ap isNone (lent-verdict t (size s) (s .pre .0) (l .loop .i) h)),
+      ),
+    )
+
+returns : tie.Need-returns I μ
+returns c =
+    let l = c .before .loop in
+    let t = c .before .before .args .t1 in
+    let h = c .loop-test .left in
+    let n = length-rows (t .heads) (t .bounds) (t .rows) in
+    record { at = λ k b. l .inv .1 .1 k (let m = l .inv .0 in omega arith) }
+
+pub dead-rows-spec : {M : Type 1} → statement M
+dead-rows-spec =
+    tie.close
+    (tie.spec
+    I
+    μ
+    (λ c. (omega arith, (refl, λ k h. absurd (omega arith))))
+    asked
+    (λ c. search needs)
+    (λ c. search needs)
+    (λ c. search needs)
+    again
+    returns)
