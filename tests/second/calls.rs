@@ -1,7 +1,8 @@
-//! The six calls, each on a text, with document 01's refusals.
+//! The six calls on a text, with document 01's refusals.
 
 use crate::dead;
-use crate::kinds;
+use crate::kinds::{self, Entry};
+use crate::probes::Probe;
 use crate::reader::{is_entity, read};
 use crate::table::{Packet, Refusal, Table};
 
@@ -15,75 +16,88 @@ const NO_SUCH_ENTITY: Refusal = Refusal {
     line: 0,
 };
 
-/// The numbers of entities, filters and rows.
-pub fn check(text: &[u8]) -> Result<[usize; 3], Refusal> {
-    let table = read(text)?;
-    Ok([table.entities.len(), table.filters.len(), table.rows.len()])
+/// A text, read once for all calls on it.
+pub struct Reading<'t> {
+    text: &'t [u8],
+    table: Result<Table, Refusal>,
 }
 
-/// The row's line in the text without line feed; empty on any refusal.
-pub fn line(text: &[u8], row: usize) -> &[u8] {
-    match read_with_row(text, row) {
-        Ok(table) => &text[table.row_places[row].clone()],
-        Err(_) => &[],
-    }
-}
-
-/// Writes the anomalies, three bytes an entry, and gives their count.
-pub fn list(text: &[u8], output: &mut [u8]) -> Result<usize, Refusal> {
-    let entries = kinds::list(&read(text)?);
-    write(&entries.concat(), output)?;
-    Ok(entries.len())
-}
-
-/// The row's least winning packet, or none if it is dead.
-pub fn witness(text: &[u8], row: usize) -> Result<Option<Packet>, Refusal> {
-    Ok(dead::witness(&read_with_row(text, row)?, row))
-}
-
-/// Writes the text without its dead rows' lines, and gives its length.
-pub fn strike(text: &[u8], output: &mut [u8]) -> Result<usize, Refusal> {
-    let table = read(text)?;
-    let mut struck = Vec::new();
-    let mut kept_from = 0;
-    for (row, place) in table.row_places.iter().enumerate() {
-        if dead::dead(&table, row) {
-            struck.extend_from_slice(&text[kept_from..place.start]);
-            kept_from = place.end + 1;
+impl<'t> Reading<'t> {
+    /// The reading of a text.
+    pub fn of(text: &'t [u8]) -> Reading<'t> {
+        Reading {
+            text,
+            table: read(text),
         }
     }
-    struck.extend_from_slice(&text[kept_from..]);
-    write(&struck, output)?;
-    Ok(struck.len())
-}
 
-/// The row that wins the probe in the group that the given row names.
-pub fn winner(
-    text: &[u8],
-    row: usize,
-    a: u8,
-    b: u8,
-    packet: &Packet,
-) -> Result<Option<usize>, Refusal> {
-    let table = read_with_row(text, row)?;
-    if !is_entity(&table, a) || !is_entity(&table, b) {
-        return Err(NO_SUCH_ENTITY);
+    /// The numbers of entities, filters and rows.
+    pub fn check(&self) -> Result<[usize; 3], Refusal> {
+        let table = self.table()?;
+        Ok([table.entities.len(), table.filters.len(), table.rows.len()])
     }
-    Ok(dead::winner(&table, row, a, b, packet))
-}
 
-/// The table of a text that has the row.
-fn read_with_row(text: &[u8], row: usize) -> Result<Table, Refusal> {
-    let table = read(text)?;
-    if row < table.rows.len() {
-        Ok(table)
-    } else {
-        Err(NO_SUCH_ROW)
+    /// The row's line in the text without line feed; empty on any refusal.
+    pub fn line(&self, row: usize) -> &'t [u8] {
+        match self.table_with_row(row) {
+            Ok(table) => &self.text[table.row_places[row].clone()],
+            Err(_) => &[],
+        }
+    }
+
+    /// The anomalies in ascending order.
+    pub fn list(&self) -> Result<Vec<Entry>, Refusal> {
+        Ok(kinds::list(self.table()?))
+    }
+
+    /// The row's least winning packet, or none if it is dead.
+    pub fn witness(&self, row: usize) -> Result<Option<Packet>, Refusal> {
+        Ok(dead::witness(self.table_with_row(row)?, row))
+    }
+
+    /// The text without its dead rows' lines.
+    pub fn strike(&self) -> Result<Vec<u8>, Refusal> {
+        let table = self.table()?;
+        let mut struck = Vec::new();
+        let mut kept_from = 0;
+        for (row, place) in table.row_places.iter().enumerate() {
+            if dead::dead(table, row) {
+                struck.extend_from_slice(&self.text[kept_from..place.start]);
+                kept_from = place.end + 1;
+            }
+        }
+        struck.extend_from_slice(&self.text[kept_from..]);
+        Ok(struck)
+    }
+
+    /// The row that wins the probe in the group that the probe's row names.
+    pub fn winner(&self, probe: &Probe) -> Result<Option<usize>, Refusal> {
+        let row = usize::from(probe.row);
+        let table = self.table_with_row(row)?;
+        if !is_entity(table, probe.a) || !is_entity(table, probe.b) {
+            return Err(NO_SUCH_ENTITY);
+        }
+        Ok(dead::winner(table, row, probe.a, probe.b, &probe.packet))
+    }
+
+    /// The table of an accepted text.
+    fn table(&self) -> Result<&Table, Refusal> {
+        self.table.as_ref().map_err(|&refusal| refusal)
+    }
+
+    /// The table of a text that has the row.
+    fn table_with_row(&self, row: usize) -> Result<&Table, Refusal> {
+        let table = self.table()?;
+        if row < table.rows.len() {
+            Ok(table)
+        } else {
+            Err(NO_SUCH_ROW)
+        }
     }
 }
 
 /// Copies the result to the start of the output if it fits.
-fn write(result: &[u8], output: &mut [u8]) -> Result<(), Refusal> {
+pub fn write(result: &[u8], output: &mut [u8]) -> Result<(), Refusal> {
     output
         .get_mut(..result.len())
         .ok_or(SHORT_OUTPUT)?

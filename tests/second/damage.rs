@@ -168,7 +168,7 @@ fn spoil_content(random: &mut Random, line: &mut Vec<u8>) {
 }
 
 /// Breaks a rule of the entity.
-fn spoil_entity(random: &mut Random, line: &mut Vec<u8>) {
+fn spoil_entity(random: &mut Random, line: &mut [u8]) {
     match random.below(4) {
         0 => set(
             line,
@@ -214,7 +214,7 @@ fn stranger(random: &mut Random) -> u8 {
 }
 
 /// Makes one field's low greater by one than its high, now and then only equal to it.
-fn spoil_bounds(random: &mut Random, line: &mut Vec<u8>, start: usize) {
+fn spoil_bounds(random: &mut Random, line: &mut [u8], start: usize) {
     let field = random.below(FIELDS);
     let width = WIDTHS[field];
     let low_at = start + 2 * WIDTHS[..field].iter().sum::<usize>();

@@ -9,26 +9,46 @@ use crate::table::{FIELDS, NONE, WIDTHS};
 /// How many roots most ends and gateways are drawn from, so that rows meet.
 pub const BUSY_ROOTS: usize = 5;
 
+/// How large a table is.
+#[derive(Clone, Copy, PartialEq, Eq)]
+pub enum Scale {
+    /// Few entities and few values in each field, so that every probe can be tried.
+    Tiny,
+    Usual,
+    /// Every limit is used up.
+    Full,
+}
+
 /// A table in the making.
 pub struct Draft<'r> {
     pub random: &'r mut Random,
     pub table: Table,
     pub roots: Vec<u8>,
-    /// The values that bounds of each field are drawn from; none for a field that stays full.
+    /// The packets that all rows and filters keep to.
+    pub whole: Selector,
+    /// The values that bounds of each field are drawn from; none for a field that stays whole.
     bounds: [Vec<u32>; FIELDS],
-    /// Whether every limit is used up.
-    pub full: bool,
+    pub scale: Scale,
 }
 
 /// A table with entities, caps and floor, and the bounds for its selectors.
-pub fn draft(random: &mut Random) -> Draft<'_> {
-    let full = random.chance(4);
-    let entities = entities(random, full);
+pub fn draft(random: &mut Random, scale: Scale) -> Draft<'_> {
+    let entities = entities(random, scale);
     let roots = (0..entities.len())
         .filter(|&e| entities[e].parent == NONE)
         .map(|e| e as u8)
         .collect();
-    let bounds = WIDTHS.map(|width| bounds(random, width));
+    let whole = match scale {
+        Scale::Tiny => windows(random),
+        _ => WIDTHS.map(|width| Range {
+            low: 0,
+            high: greatest(width),
+        }),
+    };
+    let bounds = whole.map(|range| match scale {
+        Scale::Tiny => (range.low..=range.high).collect(),
+        _ => bounds(random, range.high),
+    });
     let strict = random.chance(20);
     let caps = (0..TECHNOLOGIES)
         .map(|_| if strict { few(random) } else { [255; 3] })
@@ -48,15 +68,17 @@ pub fn draft(random: &mut Random) -> Draft<'_> {
         random,
         table,
         roots,
+        whole,
         bounds,
-        full,
+        scale,
     }
 }
 
 /// Lawful entities: roots alone, bushes or deep trees.
-fn entities(random: &mut Random, full: bool) -> Vec<Entity> {
+fn entities(random: &mut Random, scale: Scale) -> Vec<Entity> {
     let count = match random.below(10) {
-        _ if full => MOST_ENTITIES,
+        _ if scale == Scale::Tiny => random.between(2, 5),
+        _ if scale == Scale::Full => MOST_ENTITIES,
         0 => random.between(1, 3),
         1..=6 => random.between(4, 14),
         7..=8 => random.between(15, 40),
@@ -118,9 +140,21 @@ pub fn greatest(width: usize) -> u32 {
     u32::MAX >> (32 - 8 * width)
 }
 
-/// Values that the bounds of a field are drawn from; none for a field that stays full.
-fn bounds(random: &mut Random, width: usize) -> Vec<u32> {
-    let most = greatest(width);
+/// Two to four neighbouring values for each field, the same for both addresses and for both ports.
+fn windows(random: &mut Random) -> Selector {
+    let [address, port, protocol] = [4, 2, 1].map(|width| {
+        let more = random.between(1, 3) as u32;
+        let low = random.pick(&[0, greatest(width) / 2, greatest(width) - more]);
+        Range {
+            low,
+            high: low + more,
+        }
+    });
+    [address, address, port, port, protocol]
+}
+
+/// Values that the bounds of a field are drawn from, up to `most`; none for a field that stays whole.
+fn bounds(random: &mut Random, most: u32) -> Vec<u32> {
     if random.chance(35) {
         return Vec::new();
     }
@@ -148,7 +182,7 @@ impl Draft<'_> {
         if row.technology == 0 {
             row.coefficients = [0; 3];
         }
-        while self.full && row.gateways.len() < MOST_GATEWAYS {
+        while self.scale == Scale::Full && row.gateways.len() < MOST_GATEWAYS {
             row.gateways
                 .push(self.roots[row.gateways.len() % self.roots.len()]);
         }
@@ -271,10 +305,7 @@ impl Draft<'_> {
     /// A range with the table's bounds for the field.
     fn range(&mut self, field: usize) -> Range {
         if self.bounds[field].is_empty() || self.random.chance(25) {
-            return Range {
-                low: 0,
-                high: greatest(WIDTHS[field]),
-            };
+            return self.whole[field];
         }
         let one = self.random.pick(&self.bounds[field]);
         let other = self.random.pick(&self.bounds[field]);

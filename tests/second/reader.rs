@@ -63,7 +63,7 @@ fn take_line(table: &mut Table, text: &[u8], start: usize, end: usize) -> Option
 }
 
 /// The bytes of a line of digit pairs; none if it is empty, odd or has another character.
-fn decode(line: &[u8]) -> Option<Vec<u8>> {
+pub fn decode(line: &[u8]) -> Option<Vec<u8>> {
     if line.is_empty() || line.len() % 2 == 1 {
         return None;
     }

@@ -1,15 +1,15 @@
 //! Seeded lawful tables of many shapes, made of families of rows that regard one another.
 
-use crate::draft::{draft, few, greatest, Draft, BUSY_ROOTS};
+use crate::draft::{draft, few, Draft, Scale, BUSY_ROOTS};
 use crate::kinds::exchanged;
 use crate::random::Random;
 use crate::reader::{MOST_FILTERS, MOST_ROWS};
 use crate::relations::root;
-use crate::table::{Filter, Range, Table, FIELDS, WIDTHS};
+use crate::table::{Filter, Table, FIELDS};
 
 /// A lawful table.
-pub fn table(random: &mut Random) -> Table {
-    let mut draft = draft(random);
+pub fn table(random: &mut Random, scale: Scale) -> Table {
+    let mut draft = draft(random, scale);
     let rows = draft.row_count();
     while draft.table.rows.len() < rows {
         draft.add_family();
@@ -26,7 +26,8 @@ impl Draft<'_> {
     /// How many rows the table gets.
     fn row_count(&mut self) -> usize {
         match self.random.below(20) {
-            _ if self.full => MOST_ROWS,
+            _ if self.scale == Scale::Tiny => self.random.between(1, 12),
+            _ if self.scale == Scale::Full => MOST_ROWS,
             0 => self.random.below(2),
             1..=9 => self.random.between(2, 9),
             10..=16 => self.random.between(10, 24),
@@ -59,7 +60,11 @@ impl Draft<'_> {
     /// Adds rows of one group between the same roots.
     fn add_crowd(&mut self) {
         let model = self.row();
-        for _ in 0..self.random.between(3, 12) {
+        let count = match self.random.below(12) {
+            0 => self.random.between(13, MOST_ROWS),
+            _ => self.random.between(3, 12),
+        };
+        for _ in 0..count {
             let mut row = model.clone();
             row.source = self.near(model.source);
             row.destination = self.near(model.destination);
@@ -74,7 +79,10 @@ impl Draft<'_> {
     /// Adds a row after others of its group that claim its packets together, or all but a few.
     fn add_hidden(&mut self) {
         let hidden = self.row();
-        let pieces = self.random.between(2, 8);
+        let pieces = match self.random.below(12) {
+            0 => self.random.between(9, MOST_ROWS - 1),
+            _ => self.random.between(2, 8),
+        };
         let mut parts = self.cut(&hidden.selector, pieces);
         self.random.shuffle(&mut parts);
         let flaw = self.random.below(6);
@@ -90,10 +98,7 @@ impl Draft<'_> {
             } else if k == 0 && flaw == 1 {
                 row.source = self.near(hidden.source);
             } else if flaw > 2 && self.random.chance(30) {
-                row.selector[field] = Range {
-                    low: 0,
-                    high: greatest(WIDTHS[field]),
-                };
+                row.selector[field] = self.whole[field];
             }
             self.push(row);
         }
@@ -224,7 +229,7 @@ impl Draft<'_> {
     /// Adds filters, most of them of some row's gateway and near its selector.
     fn add_filters(&mut self) {
         let count = match self.random.below(10) {
-            _ if self.full => MOST_FILTERS,
+            _ if self.scale == Scale::Full => MOST_FILTERS,
             0..=3 => 0,
             4..=8 => self.random.between(1, 6),
             _ => self.random.between(7, MOST_FILTERS),
@@ -242,12 +247,7 @@ impl Draft<'_> {
             }
             let field = self.random.below(FIELDS);
             match self.random.below(3) {
-                0 => {
-                    filter.selector[field] = Range {
-                        low: 0,
-                        high: greatest(WIDTHS[field]),
-                    }
-                }
+                0 => filter.selector[field] = self.whole[field],
                 1 if filter.selector[field].low < filter.selector[field].high => {
                     filter.selector[field].low += 1;
                 }

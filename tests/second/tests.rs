@@ -1,14 +1,17 @@
 //! Document 01's table T and its edges, the examples of the kinds, and demand 3 on seeded tables.
 
-use crate::calls;
+use crate::calls::{self, Reading};
+use crate::cases::case;
 use crate::frames::{lines, text};
-use crate::generate::seeded;
 use crate::kinds::list;
+use crate::printed;
+use crate::probes::Probe;
 use crate::random::Random;
 use crate::reader::read;
 use crate::relations::same_group;
 use crate::table::{Packet, Refusal, Table, FIELDS};
 use std::collections::BTreeSet;
+use std::path::Path;
 
 const ROW_START: &str = "050001030303030300000000FFFFFFFF00000000FFFFFFFF0000FFFF";
 
@@ -41,63 +44,60 @@ fn refusal(text: &[u8]) -> Option<(usize, usize)> {
 
 #[test]
 fn list_of_t() {
-    let mut output = [0xAA; 20];
     let text = text(&table_t());
-    assert_eq!(calls::list(&text, &mut output[..18]), Ok(6));
-    let entries = [
-        0, 8, 2, 0, 16, 255, 1, 8, 2, 1, 16, 255, 2, 16, 255, 2, 20, 255,
-    ];
-    assert_eq!(output[..18], entries);
-    assert_eq!(output[18..], [0xAA; 2]);
+    let entries = Reading::of(&text).list().unwrap().concat();
+    assert_eq!(
+        entries,
+        [0, 8, 2, 0, 16, 255, 1, 8, 2, 1, 16, 255, 2, 16, 255, 2, 20, 255]
+    );
+    let mut longer = [0xAA; 20];
+    assert_eq!(calls::write(&entries, &mut longer), Ok(()));
+    assert_eq!(longer[..18], entries);
+    assert_eq!(longer[18..], [0xAA; 2]);
     let mut short = [0xAA; 17];
     assert_eq!(
-        calls::list(&text, &mut short),
+        calls::write(&entries, &mut short),
         Err(Refusal { number: 8, line: 0 })
     );
     assert_eq!(short, [0xAA; 17]);
 }
 
 #[test]
-fn witnesses_of_t() {
-    let text = text(&table_t());
-    assert_eq!(calls::witness(&text, 0), Ok(Some([0; 5])));
-    assert_eq!(calls::witness(&text, 1), Ok(Some([0, 0, 0, 32_768, 0])));
-    assert_eq!(calls::witness(&text, 2), Ok(None));
+fn answers_on_t() {
+    let whole = text(&table_t());
+    let probes = [
+        "02010300000000000000000000800000",
+        "00000300000000000000000000000000",
+        "03040300000000000000000000000000",
+        "00010400000000000000000000000000",
+    ]
+    .map(|digits| Probe::read(digits.as_bytes()).unwrap());
+    let answers = printed::answers("t", &whole, &probes);
+    assert_eq!(answers.check, b"t 040003\n");
+    assert_eq!(answers.lines, [&text(&table_t()[11..])[..], b"\n"].concat());
     assert_eq!(
-        calls::witness(&text, 3),
-        Err(Refusal { number: 9, line: 0 })
+        answers.list,
+        b"000802\n0010FF\n010802\n0110FF\n0210FF\n0214FF\n"
     );
+    assert_eq!(
+        answers.witnesses,
+        b"00000000000000000000000000\n00000000000000000000800000\ndead\n!0900\n"
+    );
+    assert_eq!(answers.struck, text(&table_t()[..13]));
+    assert_eq!(answers.winners, b"01\nnone\n!0900\n!0A00\n");
 }
 
 #[test]
-fn other_calls_on_t() {
-    let whole = text(&table_t());
-    assert_eq!(calls::check(&whole), Ok([4, 0, 3]));
-    assert_eq!(calls::line(&whole, 1), table_t()[12]);
-    assert_eq!(calls::line(&whole, 3), b"");
-    let mut output = vec![0; whole.len()];
-    let length = calls::strike(&whole, &mut output).unwrap();
-    assert_eq!(output[..length], text(&table_t()[..13]));
-    assert_eq!(
-        calls::strike(&whole, &mut vec![0; length - 1]),
-        Err(Refusal { number: 8, line: 0 })
-    );
-    assert_eq!(
-        calls::winner(&whole, 2, 1, 3, &[0, 0, 0, 32_768, 0]),
-        Ok(Some(1))
-    );
-    assert_eq!(calls::winner(&whole, 0, 0, 3, &[0; 5]), Ok(None));
-    assert_eq!(
-        calls::winner(&whole, 3, 4, 3, &[0; 5]),
-        Err(Refusal { number: 9, line: 0 })
-    );
-    assert_eq!(
-        calls::winner(&whole, 0, 1, 4, &[0; 5]),
-        Err(Refusal {
-            number: 10,
-            line: 0
-        })
-    );
+fn answers_on_a_refused_text() {
+    let probe = Probe::read(b"FFFFFF00000000000000000000000000").unwrap();
+    let printed = printed::answers("empty", b"", &[probe]).all();
+    assert_eq!(printed, b"empty !0301\n\n!0301\n!0301\n!0301\n!0301\n");
+}
+
+#[test]
+fn programs_read_16_kib() {
+    assert_eq!(printed::of_input(&[b'0'; 16_384], b"!0101\n"), b"!0101\n");
+    assert_eq!(printed::of_input(&[b'0'; 16_385], b"!0101\n"), b"!00\n");
 }
 
 #[test]
@@ -174,23 +174,29 @@ fn refusals_of_content() {
 
 #[test]
 fn executed_examples() {
-    let directory = std::path::Path::new("crates/answers");
+    let directory = Path::new("crates/answers");
     let stored = |name: &str| std::fs::read_to_string(directory.join(name)).unwrap();
-    let mut printed = String::new();
-    for name in stored("args").lines() {
-        let text = std::fs::read(directory.join("data").join(name)).unwrap();
-        let answer = crate::answer_lines(&text);
-        printed += &format!("{name} {}", answer.unwrap_or_else(|refusal| crate::refused(refusal) + "\n"));
-    }
-    assert_eq!(printed, stored("stdout"));
+    let arguments = stored("args");
+    let names: Vec<&str> = arguments.lines().collect();
+    let printed: Vec<Vec<u8>> = names
+        .chunks(2)
+        .map(|pair| crate::answers(&directory.join("data"), pair[0], pair[1]).unwrap())
+        .collect();
+    assert_eq!(
+        String::from_utf8(printed.concat()).unwrap(),
+        stored("stdout")
+    );
 }
 
 #[test]
 fn seeded_texts_have_every_kind_and_refusal() {
     let mut kinds = BTreeSet::new();
     let mut refusals = BTreeSet::new();
-    for number in 0..400 {
-        match read(&seeded(1, number)) {
+    let mut lengths = BTreeSet::new();
+    for number in 0..1000 {
+        let text = case(1, number).text;
+        lengths.insert(text.len());
+        match read(&text) {
             Ok(table) => kinds.extend(list(&table).iter().map(|entry| entry[1])),
             Err(refusal) => {
                 refusals.insert(refusal.number);
@@ -199,12 +205,15 @@ fn seeded_texts_have_every_kind_and_refusal() {
     }
     assert_eq!(kinds, (1..=20).collect());
     assert_eq!(refusals, (1..=7).collect());
+    assert!([16_383, 16_384, 16_385]
+        .iter()
+        .all(|length| lengths.contains(length)));
 }
 
 #[test]
 fn seeded_tables_are_read_as_written() {
     for number in 0..100 {
-        let text_read = seeded(2, number);
+        let text_read = case(2, number).text;
         if let Ok(table) = read(&text_read) {
             assert_eq!(text(&lines(&table)), text_read);
         }
@@ -215,13 +224,12 @@ fn seeded_tables_are_read_as_written() {
 fn demand_three_on_seeded_tables() {
     let random = &mut Random::new(3);
     for number in 0..150 {
-        let old_text = seeded(3, number);
+        let old_text = case(3, number).text;
         let Ok(old) = read(&old_text) else {
             continue;
         };
-        let mut output = vec![0; old_text.len()];
-        let length = calls::strike(&old_text, &mut output).unwrap();
-        let new = read(&output[..length]).unwrap();
+        let reading = Reading::of(&old_text);
+        let new = read(&reading.strike().unwrap()).unwrap();
         let listed_dead: Vec<usize> = list(&old)
             .iter()
             .filter(|entry| entry[1] == 20)
@@ -238,7 +246,9 @@ fn demand_three_on_seeded_tables() {
         );
         assert!(list(&new).iter().all(|entry| entry[1] != 20));
         for row in 0..old.rows.len() {
-            check_witness(&old, &old_text, row, listed_dead.contains(&row), random);
+            let witness = reading.witness(row).unwrap();
+            assert_eq!(witness.is_none(), listed_dead.contains(&row));
+            check_witness(&old, row, witness, random);
         }
         for _ in 0..if old.rows.is_empty() { 0 } else { 200 } {
             compare_winners(&old, &new, &kept, random);
@@ -247,9 +257,7 @@ fn demand_three_on_seeded_tables() {
 }
 
 /// Holds a row's witness against winners: it wins there, and with no smaller packet tried.
-fn check_witness(table: &Table, text: &[u8], row: usize, listed_dead: bool, random: &mut Random) {
-    let witness = calls::witness(text, row).unwrap();
-    assert_eq!(witness.is_none(), listed_dead);
+fn check_witness(table: &Table, row: usize, witness: Option<Packet>, random: &mut Random) {
     let own = &table.rows[row];
     let wins =
         |a: u8, b: u8, packet: &Packet| crate::dead::winner(table, row, a, b, packet) == Some(row);

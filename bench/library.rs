@@ -1,0 +1,75 @@
+//! The four calls that are measured, of the static libraries and of the second implementation. Each reads its text.
+
+use crate::calls::{write, Reading};
+use crate::frames;
+use crate::table::{Refusal, Table};
+
+extern "C" {
+    fn lainukesk_list(text: *const u8, len: usize, out: *mut u8, out_len: usize) -> u64;
+    fn timed_check(text: *const u8, len: usize) -> u64;
+    fn timed_witness(text: *const u8, len: usize, row: usize) -> u64;
+    fn timed_strike(text: *const u8, len: usize, out: *mut u8, out_len: usize) -> u64;
+}
+
+/// A buffer of this many bytes holds any list and any struck text.
+pub const OUT_BYTES: usize = 38_400;
+
+#[derive(Clone, Copy, Debug)]
+pub enum Call {
+    Check,
+    List,
+    Witness,
+    Strike,
+}
+
+pub const CALLS: [Call; 4] = [Call::Check, Call::List, Call::Witness, Call::Strike];
+
+/// A text and the number of its rows.
+pub struct Text {
+    pub bytes: Vec<u8>,
+    pub rows: usize,
+}
+
+impl Text {
+    /// The table's text.
+    pub fn of(table: &Table) -> Text {
+        Text {
+            bytes: frames::text(&frames::lines(table)),
+            rows: table.rows.len(),
+        }
+    }
+
+    /// What the static library answers: 0 for a text that Check accepts, List's count, Witness of the last row as 0 or, where it
+    /// is dead, 1, and the length of Strike's text.
+    pub fn here(&self, call: Call, out: &mut [u8]) -> u64 {
+        let (text, len) = (self.bytes.as_ptr(), self.bytes.len());
+        // The slices are not null and have the lengths given.
+        unsafe {
+            match call {
+                Call::Check => timed_check(text, len),
+                Call::List => lainukesk_list(text, len, out.as_mut_ptr(), out.len()),
+                Call::Witness => timed_witness(text, len, self.rows - 1),
+                Call::Strike => timed_strike(text, len, out.as_mut_ptr(), out.len()),
+            }
+        }
+    }
+
+    /// The same of the second implementation.
+    pub fn second(&self, call: Call, out: &mut [u8]) -> Result<u64, Refusal> {
+        let reading = Reading::of(&self.bytes);
+        Ok(match call {
+            Call::Check => reading.check().map(|_| 0)?,
+            Call::List => {
+                let entries = reading.list()?;
+                write(&entries.concat(), out)?;
+                entries.len() as u64
+            }
+            Call::Witness => reading.witness(self.rows - 1)?.is_none() as u64,
+            Call::Strike => {
+                let struck = reading.strike()?;
+                write(&struck, out)?;
+                struck.len() as u64
+            }
+        })
+    }
+}

@@ -1,0 +1,52 @@
+//! Seeded texts, each with the probes to try on it.
+
+use crate::damage::damaged;
+use crate::draft::Scale;
+use crate::frames::{lines, text};
+use crate::long::long;
+use crate::probes::{probes, Probe};
+use crate::random::Random;
+use crate::shapes::table;
+
+/// A text, its probes, and whether every probe of it can be tried.
+pub struct Case {
+    pub text: Vec<u8>,
+    pub probes: Vec<Probe>,
+    pub tiny: bool,
+}
+
+impl Case {
+    /// A case of the text alone.
+    pub fn of_text(text: &[u8]) -> Case {
+        Case {
+            text: text.to_vec(),
+            probes: Vec::new(),
+            tiny: false,
+        }
+    }
+}
+
+/// The seed's case of this number: a lawful text, in a third of the cases damaged or too long, or one of a tiny table.
+pub fn case(seed: u64, number: u64) -> Case {
+    let random = &mut Random::new(seed.wrapping_mul(0x1_0000_0001).wrapping_add(number));
+    let draw = random.below(100);
+    let tiny = draw < 12;
+    let scale = match draw {
+        _ if tiny => Scale::Tiny,
+        12..=15 => Scale::Full,
+        _ => Scale::Usual,
+    };
+    let table = table(random, scale);
+    let lines = lines(&table);
+    let text = match random.below(100) {
+        _ if tiny => text(&lines),
+        0..=37 => damaged(random, lines),
+        38..=39 => long(random, lines),
+        _ => text(&lines),
+    };
+    Case {
+        text,
+        probes: probes(random, &table),
+        tiny,
+    }
+}

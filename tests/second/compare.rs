@@ -1,0 +1,240 @@
+//! The comparison of the proved programs and library with the second implementation, on seeded texts.
+
+use crate::cases::{case, Case};
+use crate::differences::Difference;
+use crate::library;
+use crate::printed::{self, Answers, MOST_INPUT};
+use crate::programs::{name, piped, Programs};
+use crate::promises;
+use crate::reader::read;
+use std::path::Path;
+use std::sync::atomic::{AtomicU64, Ordering};
+use std::sync::{Mutex, MutexGuard, PoisonError};
+use std::thread;
+
+/// How many texts `answers` gets at once.
+const BATCH: u64 = 100;
+/// Every so many texts, and of each long one, the programs get their input in two pieces.
+const IN_PIECES: u64 = 50;
+/// How many bytes beyond those needed most of the longer buffers for List have at most.
+const MOST_SPARE: u64 = 48;
+/// Every so many texts List gets a buffer for any table's list.
+const LARGEST_BUFFER: u64 = 16;
+/// The most bytes that List writes.
+const LIST_BYTES: u64 = 38_400;
+
+/// How many texts there were of each sort.
+#[derive(Clone, Copy, Default)]
+pub struct Tally {
+    pub accepted: u64,
+    pub refused: u64,
+    pub tiny: u64,
+    pub long: u64,
+}
+
+/// Compares so many texts of the seed with the programs in `binaries`, on all processors. Gives the tally, or tells of the
+/// first difference.
+pub fn compare(seed: u64, count: u64, binaries: &Path) -> Result<Tally, String> {
+    let next = AtomicU64::new(0);
+    let tally = Mutex::new(Tally::default());
+    let differences = Mutex::new(Vec::new());
+    let work = |worker: usize| -> Result<(), String> {
+        let programs = Programs::new(binaries, worker)?;
+        loop {
+            let from = next.fetch_add(BATCH, Ordering::Relaxed);
+            if from >= count {
+                return Ok(());
+            }
+            let cases: Vec<(u64, Case)> = (from..count.min(from + BATCH))
+                .map(|number| (number, case(seed, number)))
+                .collect();
+            match compare_batch(&programs, &cases) {
+                Ok(()) => locked(&tally).add(&cases),
+                Err(difference) => {
+                    next.store(count, Ordering::Relaxed);
+                    locked(&differences).push(difference);
+                }
+            }
+        }
+    };
+    let work = &work;
+    thread::scope(|scope| {
+        let workers = thread::available_parallelism().map_or(1, usize::from);
+        let threads: Vec<_> = (0..workers)
+            .map(|worker| scope.spawn(move || work(worker)))
+            .collect();
+        threads
+            .into_iter()
+            .try_for_each(|thread| thread.join().map_err(|_| "a thread panicked")?)
+    })?;
+    let first = locked(&differences)
+        .drain(..)
+        .min_by_key(|difference: &Difference| difference.number);
+    match first {
+        Some(difference) => Err(difference.report(seed)),
+        None => Ok(*locked(&tally)),
+    }
+}
+
+/// What the lock holds.
+fn locked<T>(lock: &Mutex<T>) -> MutexGuard<'_, T> {
+    lock.lock().unwrap_or_else(PoisonError::into_inner)
+}
+
+impl Tally {
+    /// Counts the cases.
+    fn add(&mut self, cases: &[(u64, Case)]) {
+        for (_, case) in cases {
+            match read(&case.text) {
+                Ok(_) => self.accepted += 1,
+                Err(_) => self.refused += 1,
+            }
+            self.tiny += u64::from(case.tiny);
+            self.long += u64::from(is_long(&case.text));
+        }
+    }
+}
+
+/// Whether the text is about as long as the longest input, or longer.
+fn is_long(text: &[u8]) -> bool {
+    text.len() >= MOST_INPUT - 1
+}
+
+/// Compares everything on the numbered cases.
+fn compare_batch(programs: &Programs, cases: &[(u64, Case)]) -> Result<(), Difference> {
+    let answers = compare_answers(programs, cases)?;
+    for ((number, case), answers) in cases.iter().zip(&answers) {
+        compare_list(*number, &case.text)?;
+        compare_output(*number, &programs.rowlist, &case.text, &answers.list)?;
+        compare_output(*number, &programs.strike, &case.text, &answers.struck)?;
+    }
+    check_promises(programs, cases, &answers)
+}
+
+/// Compares List of the static library.
+fn compare_list(number: u64, text: &[u8]) -> Result<(), Difference> {
+    let spare = if number % LARGEST_BUFFER == 0 {
+        LIST_BYTES
+    } else {
+        1 + number % MOST_SPARE
+    };
+    match library::difference(text, spare as usize) {
+        Some((second, proved)) => Err(Difference::between(
+            number,
+            "List of the static library",
+            second.as_bytes(),
+            proved.as_bytes(),
+        )),
+        None => Ok(()),
+    }
+}
+
+/// Compares what the program prints of the text, which now and then comes in two pieces, with the call's answer.
+fn compare_output(
+    number: u64,
+    program: &Path,
+    text: &[u8],
+    answer: &[u8],
+) -> Result<(), Difference> {
+    let second = printed::of_input(text, answer);
+    let (one, other) = text.split_at(text.len() / 2);
+    let pieces = if number % IN_PIECES == 0 || is_long(text) {
+        vec![one, other]
+    } else {
+        vec![text]
+    };
+    let proved = piped(program, &pieces).map_err(|told| Difference { number, told })?;
+    if proved == second {
+        return Ok(());
+    }
+    let what = program.file_name().unwrap_or_default().to_string_lossy();
+    Err(Difference::between(number, &what, second, &proved))
+}
+
+/// Compares what `answers` prints of the numbered cases, and gives it.
+fn compare_answers(programs: &Programs, cases: &[(u64, Case)]) -> Result<Vec<Answers>, Difference> {
+    let Some(&(number, _)) = cases.first() else {
+        return Ok(Vec::new());
+    };
+    let printed = match programs.answers(cases.iter().map(|(_, case)| case)) {
+        Ok(printed) => printed,
+        Err(told) => {
+            // Tried one by one, the text at fault shows.
+            if cases.len() > 1 {
+                for case in cases.chunks(1) {
+                    compare_answers(programs, case)?;
+                }
+            }
+            return Err(Difference { number, told });
+        }
+    };
+    let mut rest = &printed[..];
+    let mut proved = Vec::new();
+    for (place, (number, case)) in cases.iter().enumerate() {
+        let second = printed::answers(&name(place), &case.text, &case.probes);
+        let mut same = |call: &str, second: &[u8]| match rest.strip_prefix(second) {
+            Some(after) => {
+                let proved = rest[..second.len()].to_vec();
+                rest = after;
+                Ok(proved)
+            }
+            None => {
+                let shown = beginning(rest, second);
+                let what = format!("{call} by answers");
+                Err(Difference::between(*number, &what, second, shown))
+            }
+        };
+        proved.push(Answers {
+            check: same("Check", &second.check)?,
+            lines: same("Line", &second.lines)?,
+            list: same("List", &second.list)?,
+            witnesses: same("Witness", &second.witnesses)?,
+            struck: same("Strike", &second.struck)?,
+            winners: same("Winner", &second.winners)?,
+        });
+    }
+    if rest.is_empty() {
+        Ok(proved)
+    } else {
+        Err(Difference::between(number, "the end of answers", b"", rest))
+    }
+}
+
+/// As many lines of what was printed as the other answer has, and one more.
+fn beginning<'p>(printed: &'p [u8], other: &[u8]) -> &'p [u8] {
+    let lines = other.split_inclusive(|&byte| byte == b'\n').count();
+    let length = printed
+        .split_inclusive(|&byte| byte == b'\n')
+        .take(lines + 1)
+        .map(<[u8]>::len)
+        .sum();
+    &printed[..length]
+}
+
+/// Holds demand 3 against the answers on the tiny tables and on their struck texts.
+fn check_promises(
+    programs: &Programs,
+    cases: &[(u64, Case)],
+    answers: &[Answers],
+) -> Result<(), Difference> {
+    let tiny: Vec<(&(u64, Case), &Answers)> = cases
+        .iter()
+        .zip(answers)
+        .filter(|((_, case), _)| case.tiny)
+        .collect();
+    let struck: Vec<(u64, Case)> = tiny
+        .iter()
+        .map(|((number, _), answers)| (*number, Case::of_text(&answers.struck)))
+        .collect();
+    let after = compare_answers(programs, &struck).map_err(|difference| Difference {
+        told: format!("of the struck text, {}", difference.told),
+        ..difference
+    })?;
+    for (((number, case), before), after) in tiny.into_iter().zip(&after) {
+        promises::check(&case.text, &case.probes, before, after).map_err(|broken| Difference {
+            number: *number,
+            told: broken,
+        })?;
+    }
+    Ok(())
+}

@@ -1,0 +1,118 @@
+//! What the product's programs print: `answers`, `rowlist` and `strike`.
+
+use crate::calls::Reading;
+use crate::frames::digits;
+use crate::kinds::Entry;
+use crate::probes::{packet_digits, Probe};
+use crate::table::{Packet, Refusal};
+
+/// The longest input that `rowlist` and `strike` read.
+pub const MOST_INPUT: usize = 16_384;
+
+/// What `answers` prints of a text, call by call.
+pub struct Answers {
+    pub check: Vec<u8>,
+    pub lines: Vec<u8>,
+    pub list: Vec<u8>,
+    pub witnesses: Vec<u8>,
+    pub struck: Vec<u8>,
+    pub winners: Vec<u8>,
+}
+
+/// What `answers` prints of a text with this name and these probes.
+pub fn answers(name: &str, text: &[u8], probes: &[Probe]) -> Answers {
+    let reading = Reading::of(text);
+    let rows = reading.check().map_or(0, |counts| counts[2]);
+    Answers {
+        check: check(name, &reading),
+        lines: (0..=rows)
+            .flat_map(|row| ended(reading.line(row).to_vec()))
+            .collect(),
+        list: list(&reading),
+        witnesses: (0..=rows)
+            .flat_map(|row| ended(witness(reading.witness(row))))
+            .collect(),
+        struck: reading.strike().unwrap_or_else(refused_line),
+        winners: probes
+            .iter()
+            .flat_map(|probe| ended(winner(reading.winner(probe))))
+            .collect(),
+    }
+}
+
+impl Answers {
+    /// All of it, in the order in which it is printed.
+    pub fn all(&self) -> Vec<u8> {
+        [
+            &self.check[..],
+            &self.lines,
+            &self.list,
+            &self.witnesses,
+            &self.struck,
+            &self.winners,
+        ]
+        .concat()
+    }
+}
+
+/// What `rowlist` or `strike` prints of an input, given what `answers` prints of List or Strike.
+pub fn of_input<'a>(input: &[u8], answer: &'a [u8]) -> &'a [u8] {
+    if input.len() > MOST_INPUT {
+        b"!00\n"
+    } else {
+        answer
+    }
+}
+
+/// The name, and the counts or the refusal.
+fn check(name: &str, reading: &Reading) -> Vec<u8> {
+    let counts = reading
+        .check()
+        .map_or_else(refused, |counts| digits(&counts.map(|count| count as u8)));
+    ended([name.as_bytes(), b" ", &counts].concat())
+}
+
+/// The anomalies, six digits a line, or the refusal.
+fn list(reading: &Reading) -> Vec<u8> {
+    let lines = |entries: Vec<Entry>| {
+        entries
+            .iter()
+            .flat_map(|entry| ended(digits(entry)))
+            .collect()
+    };
+    reading.list().map_or_else(refused_line, lines)
+}
+
+/// A witness's digits, `dead` or the refusal.
+fn witness(witness: Result<Option<Packet>, Refusal>) -> Vec<u8> {
+    match witness {
+        Ok(Some(packet)) => packet_digits(&packet),
+        Ok(None) => b"dead".to_vec(),
+        Err(refusal) => refused(refusal),
+    }
+}
+
+/// A winner's digits, `none` or the refusal.
+fn winner(winner: Result<Option<usize>, Refusal>) -> Vec<u8> {
+    match winner {
+        Ok(Some(row)) => digits(&[row as u8]),
+        Ok(None) => b"none".to_vec(),
+        Err(refusal) => refused(refusal),
+    }
+}
+
+/// `!` and two digits each of number and line.
+fn refused(refusal: Refusal) -> Vec<u8> {
+    format!("!{:02X}{:02X}", refusal.number, refusal.line).into_bytes()
+}
+
+/// The same with a line feed.
+fn refused_line(refusal: Refusal) -> Vec<u8> {
+    ended(refused(refusal))
+}
+
+/// The line with its line feed.
+fn ended(mut line: Vec<u8>) -> Vec<u8> {
+    line.push(b'\n');
+    line
+}
