@@ -15,6 +15,7 @@ use Rattle.policy.proofs.Laws.Tables.{sized, Counted, counted}
 use Rattle.reader.proofs.Laws.Wellformed.{accepted-wellformed}
 use Rattle.striking.specs.Texts.{struckText}
 use Rattle.striking.specs.Bytes.{keeps, keptBytes}
+use Rattle.striking.specs.declared.Written.the-variants.{Length}
 use Rattle.striking.proofs.Laws.Bytes.{struck-bytes}
 use Rattle.striking.proofs.strike.Statement.{statement}
 use Rattle.striking.proofs.strike.Tie as tie
@@ -93,7 +94,7 @@ whole c =
     let h = d .before .before .before .if1 .left in
     let n = long k in
     let l : length (result f) ≤ length (out f) = omega arith in
-    record { output = stored d ∙ written-stored (result f) (out f) l; answer = rw (fits-all (result f) (out f) l, n) refl }
+    record { output = stored d ∙ written-stored (result f) (out f) l; answer = ap Length n ∙ rw (fits-all (result f) (out f) l) refl }
 
 pub strike-spec : {M : Type 1} → statement M
 strike-spec =

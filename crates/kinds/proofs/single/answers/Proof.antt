@@ -1,17 +1,26 @@
 -- `answers` meets its contract: it makes the four tests, and stops at the first of the ends that differs. Assumes nothing.
 use borrow.Author.Needs.{needs}
 use borrow.Author.Tests.{eq-eqb, ne-eqb}
+use mathlib.Core.Path.{_≡_}
 use Rattle.kinds.specs.Tests.{answers}
 use Rattle.kinds.proofs.single.answers.Statement.{statement}
 use Rattle.kinds.proofs.single.answers.Tie as tie
 
 source : tie.Need-returns
 unfolding answers
-source c = rw (ne-eqb _ _ (c .if1 .taken))
+source c =
+    let a = c .before .before .before .args in
+    let h : a .q .source ≡ a .r .destination → ⊥ = c .if1 .taken in
+    rw (ne-eqb _ _ h)
 
 destination : tie.Need-returns-2
 unfolding answers
-destination c = rw (eq-eqb _ _ (c .before .before .before .if1 .left), ne-eqb _ _ (c .if2 .taken))
+destination c =
+    let s = c .before .before .before in
+    let a = s .before .before .before .args in
+    let h : a .q .source ≡ a .r .destination = s .if1 .left in
+    let k : a .q .destination ≡ a .r .source → ⊥ = c .if2 .taken in
+    rw (eq-eqb _ _ h, ne-eqb _ _ k)
 
 all : tie.Need-returns-3
 unfolding answers

@@ -6,7 +6,8 @@ use native.Mathlib.Omega.{arith}
 use denote.Ref.{now}
 use lib.ListN.{getD}
 use Rattle.policy.specs.Lists.{tabulate}
-use Rattle.policy.specs.Views.{coefficientsOf, filterIn}
+use Rattle.policy.specs.Views.{parentIn, rowIn, rowsIn, coefficientsOf, filterIn}
+use Rattle.verdicts.specs.Verdicts.{verdictAfter, isNone}
 use Rattle.kinds.specs.Views.{Placed, placedOf, placedIn}
 use Rattle.kinds.specs.Tests.{internalLoop, outOfPlace, nonEnforceable, inadequate, filtered, layerTwo, cyclic}
 use Rattle.listing.specs.Marks.{number}
@@ -35,6 +36,8 @@ returns c =
     let p = loop .before .before in
     let s = p .before .args in
     let e = read p in
+    let verdict : dead .is-dead .result ≡ isNone (verdictAfter (parentIn (now (s .parents))) (rowsIn (now (s .heads)) (now (s .bounds)) (s .i)) (rowIn (now (s .heads)) (now (s .bounds)) (s .i))) =
+    dead .is-dead .ensures in
     c .number .ensures
     ∙ ap number
     (singles-alike
@@ -49,7 +52,7 @@ returns c =
     (asym .asymmetric .ensures)
     (cycle .cyclic .ensures ∙ ap cyclic e)
     (path .alternative-path .ensures)
-    (dead .is-dead .ensures))
+    verdict)
 
 pub of-row-spec : {M : Type 1} → statement M
 of-row-spec =
