@@ -1,6 +1,6 @@
 -- The laws that crates above cite.
+pub mod Texts
 pub mod Calls
-pub mod Examples
 pub mod Outputs
 pub mod Promises
-pub mod Winners
+pub mod Examples

@@ -1,16 +1,14 @@
--- Document 01, "A table and its edges": the table T, and the items marked ◆ as one table of statements.
+-- Document 01, "A table and its edges": the table T, and the items marked ◆ as one table of statements, each with the numbers that it prints.
 -- Assumes nothing.
 use Prim.Native.Nat.{ℕ, _-_}
 use mathlib.Core.Path.{_≡_}
 use mathlib.Core.List.{List, [], _∷_, _++_, map}
 use lib.ListN.{length, take, replicate}
 use Rattle.hex.specs.Lines.{lineOf}
-use Rattle.relations.specs.Coefficients.{AtLeast}
-use Rattle.relations.specs.Selectors.{Overlap}
-use Rattle.relations.specs.Examples.{to}
+use Rattle.relations.specs.Examples.{edges}
 use Rattle.reader.specs.Lines.{textOf}
-use Rattle.analyser.specs.Calls.{checkOf, packet, dead, witnessOf, returned, refusedBy, listOf, listWritten}
-use Rattle.analyser.specs.declared.Checked.the-variants.{Counts, Refused}
+use Rattle.base.specs.Answers.{Answer, returned, refusedBy}
+use Rattle.analyser.specs.Calls.{TableCounts, checkOf, saysDead, givesPacket, witnessOf, listOf, listWritten}
 
 -- The text of some frames, given by their bytes.
 abbrev pub framesText : List (List ℕ) → List ℕ
@@ -33,8 +31,8 @@ head =
     ∷ []
 
 -- "050001030303030300000000FFFFFFFF00000000FFFFFFFF0000FFFF", the bytes of low and high destination port, "00FF", the gateways after their number.
-abbrev pub row : List ℕ → List ℕ → List ℕ
-row ports gateways =
+abbrev pub rowBytes : List ℕ → List ℕ → List ℕ
+rowBytes ports gateways =
     (5 ∷ 0 ∷ 1 ∷ 3 ∷ 3 ∷ 3 ∷ 3 ∷ 3 ∷ [])
     ++ (0 ∷ 0 ∷ 0 ∷ 0 ∷ 255 ∷ 255 ∷ 255 ∷ 255 ∷ [])
     ++ (0 ∷ 0 ∷ 0 ∷ 0 ∷ 255 ∷ 255 ∷ 255 ∷ 255 ∷ [])
@@ -48,47 +46,41 @@ abbrev pub T : List ℕ
 T =
     framesText
     (head
-    ++ (row (0 ∷ 0 ∷ 127 ∷ 255 ∷ []) []
-    ∷ row (128 ∷ 0 ∷ 255 ∷ 255 ∷ []) []
-    ∷ row (0 ∷ 0 ∷ 255 ∷ 255 ∷ []) []
+    ++ (rowBytes (0 ∷ 0 ∷ 127 ∷ 255 ∷ []) []
+    ∷ rowBytes (128 ∷ 0 ∷ 255 ∷ 255 ∷ []) []
+    ∷ rowBytes (0 ∷ 0 ∷ 255 ∷ 255 ∷ []) []
     ∷ []))
 
 -- "000802, 0010FF, 010802, 0110FF, 0210FF, 0214FF"
-abbrev pub listed : List ℕ
-listed = 0 ∷ 8 ∷ 2 ∷ 0 ∷ 16 ∷ 255 ∷ 1 ∷ 8 ∷ 2 ∷ 1 ∷ 16 ∷ 255 ∷ 2 ∷ 16 ∷ 255 ∷ 2 ∷ 20 ∷ 255 ∷ []
+abbrev pub listOfT : List ℕ
+listOfT = 0 ∷ 8 ∷ 2 ∷ 0 ∷ 16 ∷ 255 ∷ 1 ∷ 8 ∷ 2 ∷ 1 ∷ 16 ∷ 255 ∷ 2 ∷ 16 ∷ 255 ∷ 2 ∷ 20 ∷ 255 ∷ []
 
 -- The first lines of T and one row.
-abbrev pub withRow : List ℕ → List ℕ
-withRow r = framesText (head ++ (r ∷ []))
+abbrev pub textWithRow : List ℕ → List ℕ
+textWithRow r = framesText (head ++ (r ∷ []))
 
--- All of the statements hold.
-abbrev pub AllOf : List (Type 0) → Type 0
-AllOf [] = Unit {0}
-AllOf (P ∷ Ps) = P × AllOf Ps
+-- Four entities, no filter and one row.
+abbrev pub acceptedWithRow : Answer TableCounts
+acceptedWithRow = returned (record { entities = 4; filters = 0; rows = 1 })
 
 abbrev pub items : List (Type 0)
 items =
     -- "Witness in T: row 0 all fields 0; row 1 destination port 32,768, others 0; row 2 dead."
-    (witnessOf T 0 ≡ packet (0 ∷ 0 ∷ 0 ∷ 0 ∷ 0 ∷ []))
-    ∷ (witnessOf T 1 ≡ packet (0 ∷ 0 ∷ 0 ∷ 32768 ∷ 0 ∷ []))
-    ∷ (witnessOf T 2 ≡ dead)
+    (witnessOf T 0 ≡ givesPacket (0 ∷ 0 ∷ 0 ∷ 0 ∷ 0 ∷ []))
+    ∷ (witnessOf T 1 ≡ givesPacket (0 ∷ 0 ∷ 0 ∷ 32768 ∷ 0 ∷ []))
+    ∷ (witnessOf T 2 ≡ saysDead)
     -- "List in 18 bytes fits, 17 gives 8."
-    ∷ ((out : List ℕ) → length out ≡ 18 → (listOf T out ≡ returned 6) × (listWritten T out ≡ listed))
+    ∷ ((out : List ℕ) → length out ≡ 18 → (listOf T out ≡ returned 6) × (listWritten T out ≡ listOfT))
     ∷ ((out : List ℕ) → length out ≡ 17 → (listOf T out ≡ refusedBy 8 0) × (listWritten T out ≡ out))
     -- "Empty text: 3, line 1."
-    ∷ (checkOf [] ≡ Refused 3 1)
+    ∷ (checkOf [] ≡ refusedBy 3 1)
     -- "T less its last line feed: 1, line 14."
-    ∷ (checkOf (take (length T - 1) T) ≡ Refused 1 14)
+    ∷ (checkOf (take (length T - 1) T) ≡ refusedBy 1 14)
     -- "Low = high accepted, low = high + 1 gives 6."
-    ∷ (checkOf (withRow (row (0 ∷ 80 ∷ 0 ∷ 80 ∷ []) [])) ≡ Counts 4 0 1)
-    ∷ (checkOf (withRow (row (0 ∷ 81 ∷ 0 ∷ 80 ∷ []) [])) ≡ Refused 6 12)
+    ∷ (checkOf (textWithRow (rowBytes (0 ∷ 80 ∷ 0 ∷ 80 ∷ []) [])) ≡ acceptedWithRow)
+    ∷ (checkOf (textWithRow (rowBytes (0 ∷ 81 ∷ 0 ∷ 80 ∷ []) [])) ≡ refusedBy 6 12)
     -- "n of 8 accepted, 9 gives 2."
-    ∷ (checkOf (withRow (row (0 ∷ 0 ∷ 255 ∷ 255 ∷ []) (replicate 8 0))) ≡ Counts 4 0 1)
-    ∷ (checkOf (withRow (row (0 ∷ 0 ∷ 255 ∷ 255 ∷ []) (replicate 9 0))) ≡ Refused 2 12)
-    -- "Ranges 0-8 and 8-9 overlap, 0-7 and 8-9 don't."
-    ∷ Overlap (to 0 8) (to 8 9)
-    ∷ (Overlap (to 0 7) (to 8 9) → ⊥)
-    -- "(3,1,1) and (3,0,2): neither ⪰."
-    ∷ (AtLeast (3 ∷ 1 ∷ 1 ∷ []) (3 ∷ 0 ∷ 2 ∷ []) → ⊥)
-    ∷ (AtLeast (3 ∷ 0 ∷ 2 ∷ []) (3 ∷ 1 ∷ 1 ∷ []) → ⊥)
-    ∷ []
+    ∷ (checkOf (textWithRow (rowBytes (0 ∷ 0 ∷ 255 ∷ 255 ∷ []) (replicate 8 0))) ≡ acceptedWithRow)
+    ∷ (checkOf (textWithRow (rowBytes (0 ∷ 0 ∷ 255 ∷ 255 ∷ []) (replicate 9 0))) ≡ refusedBy 2 12)
+    -- the items on ranges and coefficients
+    ∷ edges

@@ -1,4 +1,5 @@
 -- Document 01, "The six calls": what each call answers, as a function of its arguments.
 pub mod Calls
+pub mod Views
 pub mod Promises
 pub mod Examples

@@ -1,15 +1,22 @@
-// The analyser's calls. Each takes the text of a table.
+// The analyser's calls. Each takes the text of a table, and leaves it unchanged. A text that is refused gives its own refusal; else the
+// conditions that a call asks follow in document 01's order: 9, 10, 8.
+
 ghost use mathlib.Core.Path.{_≡_};
-ghost use Rattle.analyser.specs.Calls.{checkOf, lineOf, answerOf, witnessOf, listedOf, listOf, listWritten, packed, struckOf, strikeOf, strikeWritten, winnerAnswerOf, winnerOf};
+ghost use Rattle.base.specs.Answers.{refusedBy};
 ghost use Rattle.policy.specs.Views.{packetOf};
+ghost use Rattle.analyser.specs.Calls.{checkOf, linePart, witnessOf, winnerOf, listOf, listWritten, packed, strikeOf, strikeWritten};
+ghost use Rattle.analyser.specs.Views.{checkAnswer, witnessAnswer, winnerAnswer, listAnswer, strikeAnswer};
+use frames::refusals;
+use listing::Tally;
 use policy::selector::Packet;
+use policy::table;
 use relations::group;
 use relations::group::Outcome;
 use relations::group::Probe;
+use search::Found;
 use striking::Written;
-use verdicts::Verdict;
 
-// What Check answers.
+// What Check answers: the counts of entities, filters and rows, or a refusal.
 pub enum Checked {
     Counts {
         entities: usize,
@@ -22,7 +29,7 @@ pub enum Checked {
     },
 }
 
-// What Witness answers.
+// What Witness answers: that the row is dead, its least packet, or a refusal.
 pub enum Witness {
     Dead,
     Packet(Packet),
@@ -48,9 +55,9 @@ pub enum Winner {
     Refused { number: u8, line: u8 },
 }
 
-// The counts of entities, filters and rows of the text's table, or its refusal.
+// Check: the counts of entities, filters and rows of the text's table, or its refusal.
 pub fn check(text: &[u8]) -> Checked
-    ensures { λ r. ⌜ r ≡ checkOf (now (text .entry)) ⌝ }
+    ensures { λ r. ⌜ checkAnswer r ≡ checkOf (now (text .entry)) ⌝ }
 {
     let r = reader::read(text);
     if r.number != 0 {
@@ -66,9 +73,9 @@ pub fn check(text: &[u8]) -> Checked
     }
 }
 
-// The line of row k, without its line feed: a part of the text. The empty part where the text is refused or has no such row.
+// Line: the part of the text that is row k's line, without its line feed. The empty part where the text is refused or has no such row.
 pub fn line(text: &[u8], k: usize) -> &[u8]
-    ensures { λ r. ⌜ now r ≡ lineOf (now (text .entry)) k ⌝ }
+    ensures { λ r. ⌜ now r ≡ linePart (now (text .entry)) k ⌝ }
 {
     let r = reader::read(text);
     if r.number != 0 {
@@ -77,15 +84,13 @@ pub fn line(text: &[u8], k: usize) -> &[u8]
     if r.table.rows <= k {
         return &text[..0];
     }
-    reader::nth_line(
-        text,
-        r.table.entities + r.table.capped + 1 + r.table.filters + k,
-    )
+    let before = table::lines_before(r.table.entities, r.table.capped, 1, r.table.filters);
+    reader::nth_line(text, before + k)
 }
 
-// Whether row k is dead, or else the least packet for which it wins the probe with its own source and destination.
+// Witness: that row k is dead, or the least packet for which it wins the probe with its own source and destination.
 pub fn witness_of(text: &[u8], k: usize) -> Witness
-    ensures { λ r. ⌜ answerOf r ≡ witnessOf (now (text .entry)) k ⌝ }
+    ensures { λ r. ⌜ witnessAnswer r ≡ witnessOf (now (text .entry)) k ⌝ }
 {
     let r = reader::read(text);
     if r.number != 0 {
@@ -95,18 +100,21 @@ pub fn witness_of(text: &[u8], k: usize) -> Witness
         };
     }
     if r.table.rows <= k {
-        return Witness::Refused { number: 9, line: 0 };
+        return Witness::Refused {
+            number: refusals::NO_SUCH_ROW,
+            line: 0,
+        };
     }
     match verdicts::judge(&r.table.parents, &r.table.heads, &r.table.bounds, k) {
-        Verdict::Packet(p) => Witness::Packet(p),
-        Verdict::Dead => Witness::Dead,
+        Found::Packet(p) => Witness::Packet(p),
+        Found::Nothing => Witness::Dead,
     }
 }
 
-// Writes the entries of the table's anomalies into out from its start, three bytes each in ascending order: first row, kind, second number.
-// The rest of out is unchanged, and all of it where there is a refusal.
+// List: writes the entries of the table's anomalies into out from its start, three bytes each in ascending order: first row, kind, second
+// number. Returns their count. The rest of out is unchanged, and all of it where there is a refusal.
 pub fn list(text: &[u8], out: &mut [u8]) -> Listed
-    ensures answers { λ r. ⌜ listedOf r ≡ listOf (now (text .entry)) (now (out .entry)) ⌝ }
+    ensures answers { λ r. ⌜ listAnswer r ≡ listOf (now (text .entry)) (now (out .entry)) ⌝ }
     ensures writes { λ _. ⌜ now (out .exit) ≡ listWritten (now (text .entry)) (now (out .entry)) ⌝ }
 {
     let r = reader::read(text);
@@ -117,12 +125,25 @@ pub fn list(text: &[u8], out: &mut [u8]) -> Listed
         };
     }
     match listing::list(r.table, out) {
-        listing::Listed::Count(n) => Listed::Count(n),
-        listing::Listed::Short => Listed::Refused { number: 8, line: 0 },
+        Tally::Count(n) => Listed::Count(n),
+        Tally::Short => Listed::Refused {
+            number: refusals::SHORT_OUTPUT,
+            line: 0,
+        },
     }
 }
 
-// List for C: the count, or 65,536 times the refusal's number plus its line. The layout of the arguments is in include/lainukesk.h.
+// What a number in return is multiplied by, where it is a refusal's.
+const REFUSAL_WEIGHT: u64 = 65536;
+
+// A refusal as one number: 65,536 times its number plus its line.
+pub fn packed_refusal(number: u8, line: u8) -> u64
+    ensures { λ n. ⌜ n ≡ packed (refusedBy number line) ⌝ }
+{
+    REFUSAL_WEIGHT * number as u64 + line as u64
+}
+
+// List for C, which writes what `list` writes: the count, or the refusal as one number. The layout of the arguments is in include/lainukesk.h.
 #[no_mangle]
 pub extern "C" fn lainukesk_list(text: &[u8], out: &mut [u8]) -> u64
     ensures answers { λ n. ⌜ n ≡ packed (listOf (now (text .entry)) (now (out .entry))) ⌝ }
@@ -130,13 +151,14 @@ pub extern "C" fn lainukesk_list(text: &[u8], out: &mut [u8]) -> u64
 {
     match list(text, out) {
         Listed::Count(n) => n as u64,
-        Listed::Refused { number, line } => 65536 * number as u64 + line as u64,
+        Listed::Refused { number, line } => packed_refusal(number, line),
     }
 }
 
-// Writes the text without its dead rows' lines into out from its start. The rest of out is unchanged, and all of it where there is a refusal.
+// Strike: writes the text without its dead rows' lines into out from its start. Returns its length. The rest of out is unchanged, and all of
+// it where there is a refusal.
 pub fn strike(text: &[u8], out: &mut [u8]) -> Struck
-    ensures answers { λ r. ⌜ struckOf r ≡ strikeOf (now (text .entry)) (now (out .entry)) ⌝ }
+    ensures answers { λ r. ⌜ strikeAnswer r ≡ strikeOf (now (text .entry)) (now (out .entry)) ⌝ }
     ensures writes { λ _. ⌜ now (out .exit) ≡ strikeWritten (now (text .entry)) (now (out .entry)) ⌝ }
 {
     let r = reader::read(text);
@@ -148,13 +170,16 @@ pub fn strike(text: &[u8], out: &mut [u8]) -> Struck
     }
     match striking::strike(text, r.table, out) {
         Written::Length(n) => Struck::Length(n),
-        Written::Short => Struck::Refused { number: 8, line: 0 },
+        Written::Short => Struck::Refused {
+            number: refusals::SHORT_OUTPUT,
+            line: 0,
+        },
     }
 }
 
-// The row that wins the probe in the group that row k names.
+// Winner: the row that wins the probe in the group that row k names, or nobody.
 pub fn winner_of(text: &[u8], k: usize, p: Probe) -> Winner
-    ensures { λ r. ⌜ winnerAnswerOf r ≡ winnerOf (now (text .entry)) k (p .source) (p .destination) (packetOf (p .packet)) ⌝ }
+    ensures { λ r. ⌜ winnerAnswer r ≡ winnerOf (now (text .entry)) k (p .source) (p .destination) (packetOf (p .packet)) ⌝ }
 {
     let r = reader::read(text);
     if r.number != 0 {
@@ -164,17 +189,20 @@ pub fn winner_of(text: &[u8], k: usize, p: Probe) -> Winner
         };
     }
     if r.table.rows <= k {
-        return Winner::Refused { number: 9, line: 0 };
+        return Winner::Refused {
+            number: refusals::NO_SUCH_ROW,
+            line: 0,
+        };
     }
     if r.table.entities <= p.source as usize {
         return Winner::Refused {
-            number: 10,
+            number: refusals::NO_SUCH_ENTITY,
             line: 0,
         };
     }
     if r.table.entities <= p.destination as usize {
         return Winner::Refused {
-            number: 10,
+            number: refusals::NO_SUCH_ENTITY,
             line: 0,
         };
     }

@@ -9,14 +9,25 @@
 // - Winner's answer for each probe: the row's two digits, or none
 ghost use Rattle.io.specs.Counts.{Counts};
 use analyser::Checked;
-use analyser::Listed;
-use analyser::Struck;
 use analyser::Winner;
 use analyser::Witness;
 use libc::STDOUT_FILENO;
 use policy::number::Number;
 use policy::selector::Packet;
+use printing::limits::PRINTED;
 use relations::group::Probe;
+
+// How many bytes a field's number has, and a probe's line has digits.
+const ADDRESS: usize = 4;
+
+const PORT: usize = 2;
+
+const PROTOCOL: usize = 1;
+
+const PROBE_DIGITS: usize = 32;
+
+// With its line feed.
+const PROBE_LINE: usize = PROBE_DIGITS + 1;
 
 fn put_text(text: &[u8]) {
     io::write_all(STDOUT_FILENO, text);
@@ -32,14 +43,13 @@ fn put_count(n: usize) {
     put((n % 256) as u8);
 }
 
-fn put_two_bytes(n: u64) {
-    put((n / 256 % 256) as u8);
-    put((n % 256) as u8);
-}
-
-fn put_four_bytes(n: u64) {
-    put_two_bytes(n / 65536);
-    put_two_bytes(n % 65536);
+// The digits of a field's number, of so many bytes.
+fn put_number(n: Number, bytes: usize) {
+    let mut left = bytes;
+    while 0 < left {
+        left -= 1;
+        put(n.byte(left));
+    }
 }
 
 fn put_refusal(number: u8, line: u8) {
@@ -75,41 +85,18 @@ fn put_line(text: &[u8], k: usize) {
     put_text(b"\n");
 }
 
-fn put_lines(text: &[u8], rows: usize) {
-    let mut k = 0;
-    while k < rows {
-        put_line(text, k);
-        k += 1;
-    }
-    put_line(text, rows);
-}
-
-// Three bytes a line.
-fn put_entries(entries: &[u8]) {
-    let mut at = 0;
-    while at + 2 < entries.len() {
-        put(entries[at]);
-        put(entries[at + 1]);
-        put(entries[at + 2]);
-        put_text(b"\n");
-        at += 3;
-    }
-}
-
 fn put_list(text: &[u8]) {
-    let mut out = [0u8; 38400];
-    match analyser::list(text, &mut out) {
-        Listed::Count(n) => put_entries(&out[..3 * n]),
-        Listed::Refused { number, line } => put_refusal(number, line),
-    }
+    let mut out = [0u8; PRINTED];
+    let n = printing::put_list(text, &mut out);
+    put_text(&out[..n]);
 }
 
 fn put_packet(p: Packet) {
-    put_four_bytes(p.source_address.word);
-    put_four_bytes(p.destination_address.word);
-    put_two_bytes(p.source_port.word);
-    put_two_bytes(p.destination_port.word);
-    put((p.protocol.word % 256) as u8);
+    put_number(p.source_address, ADDRESS);
+    put_number(p.destination_address, ADDRESS);
+    put_number(p.source_port, PORT);
+    put_number(p.destination_port, PORT);
+    put_number(p.protocol, PROTOCOL);
     put_text(b"\n");
 }
 
@@ -121,26 +108,31 @@ fn put_witness(text: &[u8], k: usize) {
     }
 }
 
-fn put_witnesses(text: &[u8], rows: usize) {
-    let mut k = 0;
-    while k < rows {
+// Witness's answer for row k, or Line's.
+fn put_row(text: &[u8], k: usize, witness: bool) {
+    if witness {
         put_witness(text, k);
-        k += 1;
+    } else {
+        put_line(text, k);
     }
-    put_witness(text, rows);
+}
+
+// The same for each row, and for one number more.
+fn put_rows(text: &[u8], rows: usize, witness: bool) {
+    for k in 0..=rows {
+        put_row(text, k, witness);
+    }
 }
 
 fn put_strike(text: &[u8]) {
     let mut out = io::large_buffer();
-    match analyser::strike(text, &mut out) {
-        Struck::Length(n) => put_text(&out[..n]),
-        Struck::Refused { number, line } => put_refusal(number, line),
-    }
+    let n = printing::put_struck(text, &mut out);
+    put_text(&out[..n]);
 }
 
 // The probe that the line says, and the row that names the group.
 fn put_winner(text: &[u8], line: &[u8]) {
-    if line.len() != 32 {
+    if line.len() != PROBE_DIGITS {
         return;
     }
     let packet = Packet {
@@ -165,20 +157,18 @@ fn put_winner(text: &[u8], line: &[u8]) {
     }
 }
 
-// Lines of 32 digits and a line feed.
+// Each line says a probe.
 fn put_winners(text: &[u8], probes: &[u8]) {
-    let mut at = 0;
-    while at + 32 < probes.len() {
-        put_winner(text, &probes[at..at + 32]);
-        at += 33;
+    for k in 0..probes.len() / PROBE_LINE {
+        put_winner(text, reader::nth_line(probes, k));
     }
 }
 
 fn answer(text: &[u8], probes: &[u8]) {
     let rows = put_check(text);
-    put_lines(text, rows);
+    put_rows(text, rows, false);
     put_list(text);
-    put_witnesses(text, rows);
+    put_rows(text, rows, true);
     put_strike(text);
     put_winners(text, probes);
 }

@@ -1,4 +1,10 @@
 -- The laws that crates above cite.
-pub mod Checks
-pub mod Values
-pub mod Rules
+pub mod Parts
+pub mod Numbers
+pub mod Growing
+pub mod Entities
+pub mod Caps
+pub mod Floors
+pub mod Filters
+pub mod Rows
+pub mod Kinds

@@ -1,4 +1,11 @@
--- Document 01, "The table text": the frames. The bytes here are those of a line after its kind byte.
-pub mod Checks
-pub mod Values
-pub mod Rules
+-- Document 01, "The table text": the frames, a file for each kind. The bytes here are those of a line after its kind byte.
+pub mod Refusals
+pub mod Progress
+pub mod Parts
+pub mod Numbers
+pub mod Entities
+pub mod Caps
+pub mod Floors
+pub mod Filters
+pub mod Rows
+pub mod Kinds

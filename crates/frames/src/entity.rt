@@ -2,22 +2,31 @@
 ghost use mathlib.Core.Path.{_≡_};
 ghost use Prim.Native.Nat.{_*_, _≤_};
 ghost use lib.ListN.{length, take};
+ghost use Rattle.base.specs.Checks.{refusal};
+ghost use Rattle.base.specs.Lists.{among};
 ghost use Rattle.hex.specs.Lines.{bytesOf};
 ghost use Rattle.policy.specs.Views.{entityOf};
-ghost use Rattle.relations.specs.Lists.{among};
-ghost use Rattle.frames.specs.Checks.{refusal as firstBroken};
-ghost use Rattle.frames.specs.Values.{entityLength, entityFrom};
-ghost use Rattle.frames.specs.Rules.{rootRule, otherRule, entityContent};
-ghost use mathlib.Core.List.{[], _∷_};
+ghost use Rattle.frames.specs.Numbers.{Lent};
+ghost use Rattle.frames.specs.Entities.{entityLength, entityFrom, entityPlace, otherLayers, rootRule, otherRule, entityContent};
 use crate::parts;
+use crate::refusals;
+use policy::limits::ENTITIES;
+use policy::limits::NO_PARENT;
 use policy::row::Entity;
 use policy::table::PerEntity;
 
 // Whether the part has an entity's length.
-pub fn is_long(part: &[u8]) -> bool
+pub fn has_length(part: &[u8]) -> bool
     ensures { λ r. ⌜ r ≡ entityLength (bytesOf (now (part .entry))) ⌝ }
 {
     parts::has_bytes(part, 3)
+}
+
+// Whether the sequence can go on with an entity, after so many caps and entities.
+pub fn has_place(caps: usize, entities: usize) -> bool
+    ensures { λ r. ⌜ r ≡ entityPlace caps entities ⌝ }
+{
+    (caps == 0) & (entities < ENTITIES)
 }
 
 // The entity that the part says.
@@ -34,11 +43,12 @@ pub fn read(part: &[u8]) -> Entity
 
 // Whether the layer is one that an entity with a parent has.
 fn is_layer(layer: u8) -> bool
-    ensures { λ r. ⌜ r ≡ among layer (2 ∷ 3 ∷ 5 ∷ 7 ∷ []) ⌝ }
+    ensures { λ r. ⌜ r ≡ among layer otherLayers ⌝ }
 {
     (layer == 2) | ((layer == 3) | ((layer == 5) | (layer == 7)))
 }
 
+// Whether e, with no parent, keeps the rules of a root.
 fn is_good_root(e: Entity) -> bool
     ensures { λ r. ⌜ r ≡ rootRule (entityOf e) ⌝ }
 {
@@ -47,7 +57,7 @@ fn is_good_root(e: Entity) -> bool
 
 // Whether e, with a parent, keeps its rules after the first `count` entities, whose layers are lent.
 fn is_good_other(layers: &PerEntity, count: usize, e: Entity) -> bool
-    requires { ⌜ (length (now layers) ≡ 128) × (count ≤ 128) ⌝ }
+    requires { ⌜ Lent (now layers) count ⌝ }
     ensures { λ r. ⌜ r ≡ otherRule (take count (now (layers .entry))) (entityOf e) ⌝ }
 {
     let p = e.parent as usize;
@@ -57,19 +67,14 @@ fn is_good_other(layers: &PerEntity, count: usize, e: Entity) -> bool
     is_layer(e.layer) & ((layers[p] < e.layer) & (e.mask == 0))
 }
 
-// The refusal of an entity that breaks its rules, or 0.
-pub fn refusal(layers: &PerEntity, count: usize, e: Entity) -> u8
-    requires { ⌜ (length (now layers) ≡ 128) × (count ≤ 128) ⌝ }
-    ensures { λ r. ⌜ r ≡ firstBroken (entityContent (take count (now (layers .entry))) (entityOf e)) ⌝ }
+// The number that refuses an entity that breaks its rules, or 0. The layers of the first `count` entities are lent.
+pub fn broken(layers: &PerEntity, count: usize, e: Entity) -> u8
+    requires { ⌜ Lent (now layers) count ⌝ }
+    ensures { λ r. ⌜ r ≡ refusal (entityContent (take count (now (layers .entry))) (entityOf e)) ⌝ }
 {
-    if e.parent == 255 {
-        if is_good_root(e) {
-            return 0;
-        }
-        return 4;
+    if e.parent == NO_PARENT {
+        return refusals::or_else(is_good_root(e), refusals::BAD_ENTITY, 0);
     }
-    if is_good_other(layers, count, e) {
-        return 0;
-    }
-    4
+    let good = is_good_other(layers, count, e);
+    refusals::or_else(good, refusals::BAD_ENTITY, 0)
 }

@@ -1,15 +1,28 @@
-// What several frames have: a length, coefficients, a selector.
+// What several frames have: a length, coefficients, a box.
 ghost use mathlib.Core.Path.{_≡_};
-ghost use Prim.Native.Nat.{_+_, _*_, _≤_};
+ghost use Prim.Native.Nat.{_+_, _*_, _<_, _≤_};
 ghost use lib.Dec.{eqb};
-ghost use lib.ListN.{length};
+ghost use lib.ListN.{length, getD};
 ghost use Rattle.hex.specs.Lines.{bytesOf};
 ghost use Rattle.policy.specs.Views.{coefficientsOf, rangeOf, selectorOf};
-ghost use Rattle.frames.specs.Values.{coefficientsFrom, rangeFrom, selectorFrom};
+ghost use Rattle.frames.specs.Parts.{coefficientsFrom, rangeFrom, selectorFrom, mostWidth, boxBytes, boxOf};
+use crate::widths::PORT;
+use crate::widths::PROTOCOL;
 use policy::number::Number;
 use policy::row::Coefficients;
 use policy::selector::Range;
 use policy::selector::Selector;
+
+// The byte at a place, or 0 where the part has none.
+pub fn byte_or_zero(part: &[u8], at: usize) -> u8
+    requires { ⌜ at < 256 ⌝ }
+    ensures { λ r. ⌜ r ≡ getD (bytesOf (now (part .entry))) at 0 ⌝ }
+{
+    if part.len() / 2 <= at {
+        return 0;
+    }
+    hex::u8_at(part, at)
+}
 
 // Whether the part is so many bytes.
 pub fn has_bytes(part: &[u8], n: usize) -> bool
@@ -30,9 +43,17 @@ pub fn coefficients(part: &[u8], at: usize) -> Coefficients
     }
 }
 
+// How many bytes a box has, with addresses of so many bytes.
+pub fn box_bytes(address: usize) -> usize
+    requires { ⌜ address ≤ mostWidth ⌝ }
+    ensures { λ r. ⌜ r ≡ boxBytes (boxOf address) ⌝ }
+{
+    4 * address + 4 * PORT + 2 * PROTOCOL
+}
+
 // The low and the high of a field of so many bytes, from place at on.
 fn range(part: &[u8], at: usize, width: usize) -> Range
-    requires { ⌜ (2 * (at + width + width) ≤ length (now part)) × (width ≤ 8) ⌝ }
+    requires { ⌜ (2 * (at + width + width) ≤ length (now part)) × (width ≤ mostWidth) ⌝ }
     ensures { λ r. ⌜ rangeOf r ≡ rangeFrom at width (bytesOf (now (part .entry))) ⌝ }
 {
     Range {
@@ -41,16 +62,18 @@ fn range(part: &[u8], at: usize, width: usize) -> Range
     }
 }
 
-// The 26 bytes of a selector, from place at on.
-pub fn selector(part: &[u8], at: usize) -> Selector
-    requires { ⌜ 2 * (at + 26) ≤ length (now part) ⌝ }
-    ensures { λ r. ⌜ selectorOf r ≡ selectorFrom at (bytesOf (now (part .entry))) ⌝ }
+// The box, with addresses of so many bytes, from place at on.
+pub fn selector(part: &[u8], at: usize, address: usize) -> Selector
+    requires { ⌜ (2 * (at + boxBytes (boxOf address)) ≤ length (now part)) × (address ≤ mostWidth) ⌝ }
+    ensures { λ r. ⌜ selectorOf r ≡ selectorFrom at (boxOf address) (bytesOf (now (part .entry))) ⌝ }
 {
+    let to = at + 2 * address;
+    let ports = to + 2 * address;
     Selector {
-        source_address: range(part, at, 4),
-        destination_address: range(part, at + 8, 4),
-        source_port: range(part, at + 16, 2),
-        destination_port: range(part, at + 20, 2),
-        protocol: range(part, at + 24, 1),
+        source_address: range(part, at, address),
+        destination_address: range(part, to, address),
+        source_port: range(part, ports, PORT),
+        destination_port: range(part, ports + 2 * PORT, PORT),
+        protocol: range(part, ports + 4 * PORT, PROTOCOL),
     }
 }

@@ -1,60 +1,88 @@
-// The frame of a row: holder, source, destination, technology, coefficients, selector, the number of gateways, the gateways.
+// The frame of a row: holder, source, destination, technology, coefficients, box, the number of gateways, the gateways. The box's
+// addresses are of so many bytes as the caller says.
 ghost use mathlib.Core.Path.{_≡_};
 ghost use mathlib.Core.Bool.{true};
 ghost use Prim.Native.Nat.{_+_, _*_, _≤_};
 ghost use lib.ListN.{length, take, drop};
+ghost use Rattle.base.specs.Checks.{refusal};
 ghost use Rattle.hex.specs.Lines.{bytesOf};
+ghost use Rattle.policy.specs.Limits.{mostGateways};
 ghost use Rattle.policy.specs.Views.{coefficientsOf, rowOf};
-ghost use Rattle.frames.specs.Checks.{refusal as firstBroken};
-ghost use Rattle.frames.specs.Values.{rowLength, rowFrame};
-ghost use Rattle.frames.specs.Rules.{rowNumbers, nullRule, rowContent};
+ghost use Rattle.frames.specs.Parts.{mostWidth, boxOf};
+ghost use Rattle.frames.specs.Numbers.{Lent};
+ghost use Rattle.frames.specs.Rows.{countPlace, rowLength, rowFrame, rowPlace, rowNumbers, nullRule, rowContent};
 use crate::numbers;
 use crate::parts;
+use crate::refusals;
+use policy::limits::GATEWAYS;
+use policy::limits::ROWS;
+use policy::limits::TECHNOLOGIES;
 use policy::row::Coefficients;
+use policy::row::Gateways;
 use policy::row::Row;
 use policy::table::PerEntity;
 use relations::selector;
 
-// Whether the part has a row's length, and no more than eight gateways.
-pub fn is_long(part: &[u8]) -> bool
-    ensures { λ r. ⌜ r ≡ rowLength (bytesOf (now (part .entry))) ⌝ }
+// The place of the coefficients, and that of the box.
+const COEFFICIENTS: usize = 4;
+
+const BOX: usize = 7;
+
+// The place of the number of gateways.
+fn count_place(address: usize) -> usize
+    requires { ⌜ address ≤ mostWidth ⌝ }
+    ensures { λ r. ⌜ r ≡ countPlace (boxOf address) ⌝ }
 {
-    let bytes = part.len() / 2;
-    if bytes < 34 {
-        return false;
-    }
-    let n = hex::u8_at(part, 33) as usize;
-    (n <= 8) & (bytes == 34 + n)
+    BOX + parts::box_bytes(address)
 }
 
-// The gateways, n bytes from place 34 on, and zeros.
-fn gateways(part: &[u8], n: usize) -> [u8; 8]
-    requires { ⌜ (n ≤ 8) × (2 * (34 + n) ≤ length (now part)) ⌝ }
-    ensures { λ r. ⌜ take n r ≡ take n (drop 34 (bytesOf (now (part .entry)))) ⌝ }
+// Whether the part has a row's length, and no more than eight gateways.
+pub fn has_length(part: &[u8], address: usize) -> bool
+    requires { ⌜ address ≤ mostWidth ⌝ }
+    ensures { λ r. ⌜ r ≡ rowLength (boxOf address) (bytesOf (now (part .entry))) ⌝ }
 {
-    let mut g = [0u8; 8];
+    let bytes = part.len() / 2;
+    let at = count_place(address);
+    let n = parts::byte_or_zero(part, at) as usize;
+    (at < bytes) & ((n <= GATEWAYS) & (bytes == at + 1 + n))
+}
+
+// Whether the sequence can go on with a row, after so many rows; floored is 1 if the floor has been read, else 0.
+pub fn has_place(floored: u8, rows: usize) -> bool
+    ensures { λ r. ⌜ r ≡ rowPlace floored rows ⌝ }
+{
+    (floored == 1) & (rows < ROWS)
+}
+
+// The gateways, n bytes from place at on, and zeros.
+fn gateways(part: &[u8], at: usize, n: usize) -> Gateways
+    requires { ⌜ (n ≤ mostGateways) × (2 * (at + n) ≤ length (now part)) ⌝ }
+    ensures { λ r. ⌜ take n r ≡ take n (drop at (bytesOf (now (part .entry)))) ⌝ }
+{
+    let mut g = [0u8; GATEWAYS];
     let mut k = 0;
     while k < n {
-        g[k] = hex::u8_at(part, 34 + k);
+        g[k] = hex::u8_at(part, at + k);
         k += 1;
     }
     g
 }
 
 // The row that the part says.
-pub fn read(part: &[u8]) -> Row
-    requires { ⌜ rowLength (bytesOf (now part)) ≡ true ⌝ }
-    ensures { λ r. ⌜ rowOf r ≡ rowFrame (bytesOf (now (part .entry))) ⌝ }
+pub fn read(part: &[u8], address: usize) -> Row
+    requires { ⌜ (rowLength (boxOf address) (bytesOf (now part)) ≡ true) × (address ≤ mostWidth) ⌝ }
+    ensures { λ r. ⌜ rowOf r ≡ rowFrame (boxOf address) (bytesOf (now (part .entry))) ⌝ }
 {
-    let count = hex::u8_at(part, 33);
-    let g = gateways(part, count as usize);
+    let at = count_place(address);
+    let count = hex::u8_at(part, at);
+    let g = gateways(part, at + 1, count as usize);
     Row {
         holder: hex::u8_at(part, 0),
         source: hex::u8_at(part, 1),
         destination: hex::u8_at(part, 2),
         technology: hex::u8_at(part, 3),
-        coefficients: parts::coefficients(part, 4),
-        selector: parts::selector(part, 7),
+        coefficients: parts::coefficients(part, COEFFICIENTS),
+        selector: parts::selector(part, BOX, address),
         count,
         gateways: g,
     }
@@ -62,7 +90,7 @@ pub fn read(part: &[u8]) -> Row
 
 // Whether holder, source, destination, technology and gateways are numbers that there are.
 fn has_numbers(parents: &PerEntity, count: usize, r: Row) -> bool
-    requires { ⌜ (length (now parents) ≡ 128) × (count ≤ 128) ⌝ }
+    requires { ⌜ Lent (now parents) count ⌝ }
     ensures { λ b. ⌜ b ≡ rowNumbers (take count (now (parents .entry))) (rowOf r) ⌝ }
 {
     let n = r.gateway_count();
@@ -70,29 +98,27 @@ fn has_numbers(parents: &PerEntity, count: usize, r: Row) -> bool
     numbers::is_root(parents, count, r.holder)
         & (numbers::is_entity(count, r.source)
             & (numbers::is_entity(count, r.destination)
-                & ((r.technology <= 6) & numbers::all_roots(parents, count, g, n))))
+                & ((r.technology as usize <= TECHNOLOGIES)
+                    & numbers::all_roots(parents, count, g, n))))
 }
 
 // Whether the coefficients are allowed with the technology: NULL has none above 0.
-fn has_null(technology: u8, c: Coefficients) -> bool
+fn keeps_null_rule(technology: u8, c: Coefficients) -> bool
     ensures { λ b. ⌜ b ≡ nullRule technology (coefficientsOf c) ⌝ }
 {
     (technology != 0) | ((c.header == 0) & ((c.payload == 0) & (c.confidentiality == 0)))
 }
 
-// The refusal of a row that breaks a rule, or 0. The parents of the first `count` entities are lent.
-pub fn refusal(parents: &PerEntity, count: usize, r: Row) -> u8
-    requires { ⌜ (length (now parents) ≡ 128) × (count ≤ 128) ⌝ }
-    ensures { λ b. ⌜ b ≡ firstBroken (rowContent (take count (now (parents .entry))) (rowOf r)) ⌝ }
+// The number of the first rule that the row's content breaks, or 0. The parents of the first `count` entities are lent.
+pub fn broken(parents: &PerEntity, count: usize, r: Row) -> u8
+    requires { ⌜ Lent (now parents) count ⌝ }
+    ensures { λ b. ⌜ b ≡ refusal (rowContent (take count (now (parents .entry))) (rowOf r)) ⌝ }
 {
-    if !has_numbers(parents, count, r) {
-        return 5;
-    }
-    if !selector::inhabited(r.selector) {
-        return 6;
-    }
-    if !has_null(r.technology, r.coefficients) {
-        return 7;
-    }
-    0
+    let null = refusals::or_else(
+        keeps_null_rule(r.technology, r.coefficients),
+        refusals::PROTECTED_NULL,
+        0,
+    );
+    let empty = refusals::or_else(selector::inhabited(r.selector), refusals::EMPTY_RANGE, null);
+    refusals::or_else(has_numbers(parents, count, r), refusals::BAD_NUMBER, empty)
 }

@@ -4,4 +4,3 @@ pub mod Entries
 pub mod Lines
 pub mod Numbers
 pub mod Digits
-pub mod Outputs

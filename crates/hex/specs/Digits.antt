@@ -1,13 +1,10 @@
 -- Document 01, "The table text": digits 0-9 and A-F. Characters are bytes, in ASCII.
 -- Assumes nothing.
 use Prim.Native.Nat.{ℕ, _+_, _-_, _*_, _/_, _%_}
-use mathlib.Core.Bool.{Bool, true, false, _&&_}
+use mathlib.Core.Bool.{Bool, _&&_}
 use mathlib.Core.List.{List, [], _∷_}
 use lib.Dec.{ltb, leb}
-
-abbrev pub pick {ℓ} : {A : Type ℓ} → Bool → A → A → A
-pick true a b = a
-pick false a b = b
+use Rattle.base.specs.Truths.{pick}
 
 -- The value of a digit: 0 to 9 for 0-9, 10 to 15 for A-F; 16 for every other byte.
 unfoldable pub digitValue : ℕ → ℕ

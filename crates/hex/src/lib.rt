@@ -50,7 +50,8 @@ pub fn u8_at(line: &[u8], i: usize) -> u8
     requires { ⌜ 2 * (i + 1) ≤ length (now line) ⌝ }
     ensures { λ r. ⌜ r ≡ getD (bytesOf (now (line .entry))) i 0 ⌝ }
 {
-    byte(line[2 * i], line[2 * i + 1])
+    let at = 2 * i;
+    byte(line[at], line[at + 1])
 }
 
 // The number that all bytes of a part of a line are: at most eight.

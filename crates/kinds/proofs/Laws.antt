@@ -1,7 +1,7 @@
 -- The laws that crates above cite.
 pub mod Lists
+pub mod Placed
 pub mod Roots
-pub mod Loops
 pub mod Pairs
 pub mod Rows
 pub mod Paths

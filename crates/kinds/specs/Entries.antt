@@ -4,10 +4,9 @@ use Prim.Native.Nat.{ℕ, zero, suc, _<_}
 use mathlib.Core.Path.{_≡_}
 use mathlib.Core.List.{List, [], _∷_, _++_, List·Memᴰ}
 use lib.ListN.{length}
-use Rattle.hex.specs.Digits.{pick}
+use Rattle.base.specs.Truths.{pick}
 use Rattle.policy.specs.Model.{Table}
-use Rattle.kinds.specs.Kinds.{noSecond}
-use Rattle.kinds.specs.Tests.{anomaly}
+use Rattle.kinds.specs.Kinds.{noSecond, kindCount, anomaly}
 
 pub record Entry : Type 0 where
   pub row : ℕ
@@ -26,11 +25,20 @@ gather (suc n) k f = f k ++ gather n (suc k) f
 abbrev pub listed : Table → ℕ → ℕ → ℕ → List Entry
 listed t i kind j = pick (anomaly t i kind j) (entry i kind j ∷ []) []
 
--- For each row, for each kind, for each second number: the rows, and FF.
+-- Of row i and a kind, for each second number: the rows, and FF.
+abbrev pub ofKind : Table → ℕ → ℕ → List Entry
+ofKind t i kind = gather (length (t .rows)) 0 (λ j. listed t i kind j) ++ listed t i kind noSecond
+
+-- Of row i, for each kind.
+abbrev pub ofRow : Table → ℕ → List Entry
+ofRow t i = gather kindCount 1 (ofKind t i)
+
 unfoldable pub entries : Table → List Entry
-entries t =
-    gather (length (t .rows)) 0
-    (λ i. gather 20 1 (λ kind. gather (length (t .rows)) 0 (λ j. listed t i kind j) ++ listed t i kind noSecond))
+entries t = gather (length (t .rows)) 0 (ofRow t)
+
+-- "At most 12,800 entries"
+abbrev pub mostEntries : ℕ
+mostEntries = 12800
 
 -- "compared in this sequence": row, kind, second number.
 pub data Before : Entry → Entry → Type 0 where

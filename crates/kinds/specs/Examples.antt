@@ -4,6 +4,7 @@ use Prim.Native.Nat.{ℕ}
 use mathlib.Core.Path.{_≡_}
 use mathlib.Core.List.{[], _∷_}
 use lib.ListN.{replicate}
+use Rattle.policy.specs.Limits.{technologies}
 use Rattle.policy.specs.Model.{Entity, Range, Row, Table, noParent}
 use Rattle.kinds.specs.Kinds.{noSecond}
 use Rattle.kinds.specs.Entries.{entry, entries}
@@ -33,7 +34,7 @@ abbrev pub tableT : Table
 tableT =
     record {
       entities = root ∷ child 0 ∷ root ∷ child 2 ∷ [];
-      caps = replicate 6 (255 ∷ 255 ∷ 255 ∷ []);
+      caps = replicate technologies (255 ∷ 255 ∷ 255 ∷ []);
       floor = 0 ∷ 0 ∷ 0 ∷ [];
       filters = [];
       rows = row (upTo 32767) ∷ row (record { low = 32768; high = 65535 }) ∷ row (upTo 65535) ∷ [];

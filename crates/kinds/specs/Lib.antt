@@ -1,6 +1,8 @@
--- The twenty kinds of anomalies: what each says, its test, and the list of a table's entries.
-pub mod Kinds
+-- The twenty kinds of anomalies: what each says, its test, the list of them, and the list of a table's entries.
+pub mod Meanings
 pub mod Views
 pub mod Tests
+pub mod Seen
+pub mod Kinds
 pub mod Entries
 pub mod Examples

@@ -1,26 +1,20 @@
--- The test of each kind of `Kinds`.
+-- The test of each kind, equal to its meaning of `Meanings` in a well-formed table (proofs/Laws).
 -- Assumes nothing.
 use Prim.Native.Nat.{ℕ, zero, suc, _-_, _/_, _%_, _^_}
 use mathlib.Core.Bool.{Bool, true, false, not, _&&_, _||_}
 use mathlib.Core.List.{List, [], _∷_, _++_}
 use lib.Dec.{eqb, ltb}
-use lib.ListN.{length, getD, replicate}
-use Rattle.policy.specs.Model.{Coefficients, Filter, Row, Selector, Table, entityAt, rowAt, parentOf}
-use Rattle.relations.specs.Lists.{among, same}
+use lib.ListN.{getD}
+use Rattle.policy.specs.Model.{Coefficients, Filter, Row, Selector, Table, parentOf}
+use Rattle.base.specs.Lists.{among, same, some}
 use Rattle.relations.specs.Entities.{atOrAbove}
 use Rattle.relations.specs.Technologies.{layerOf, dominates}
 use Rattle.relations.specs.Coefficients.{atLeast}
 use Rattle.relations.specs.Selectors.{contains, overlaps, inhabited, meet, exchange, sameSelector}
 use Rattle.relations.specs.Groups.{sameGroup}
 use Rattle.verdicts.specs.Verdicts.{verdictOn, isNone}
-use Rattle.kinds.specs.Kinds.{sourceRoot, destinationRoot, noSecond}
 use Rattle.kinds.specs.Views.{Placed, placedAt}
 use Rattle.kinds.specs.declared.pair.Pair.{Pair}
-
--- The test holds of some number below n.
-unfoldable pub some : ℕ → (ℕ → Bool) → Bool
-some zero f = false
-some (suc n) f = some n f || f n
 
 -- a stands at some place of the list and b at a later one.
 unfoldable pub inOrder : ℕ → ℕ → List ℕ → Bool
@@ -38,11 +32,11 @@ empty (x ∷ xs) = false
 
 -- ---- of one row
 
--- 1
+-- 1, internal loop: root(s) = root(d).
 abbrev pub internalLoop : Placed → Bool
 internalLoop p = eqb (p .from) (p .to)
 
--- 2
+-- 2, out of place: holder is not root(s).
 abbrev pub outOfPlace : Placed → Bool
 outOfPlace p = not (eqb (p .row .holder) (p .from))
 
@@ -50,27 +44,30 @@ outOfPlace p = not (eqb (p .row .holder) (p .from))
 unfoldable pub lacks : ℕ → ℕ → Bool
 lacks mask u = eqb ((mask / (2 ^ u)) % 2) 0
 
--- 3, after the masks of the two roots and the caps.
+-- 3, non-enforceable, after the masks of the two roots and the caps.
 unfoldable pub nonEnforceable : ℕ → ℕ → List Coefficients → Row → Bool
 nonEnforceable from to caps r =
     not (eqb (r .technology) 0)
     && (lacks from (r .technology)
     || (lacks to (r .technology) || not (atLeast (getD caps (r .technology - 1) []) (r .coefficients))))
 
--- 4
+-- 4, inadequate, after the floor.
 abbrev pub inadequate : Coefficients → Row → Bool
 inadequate floor r = not (atLeast (r .coefficients) floor)
 
--- 14: one of the filters.
-unfoldable pub filtered : List Filter → Row → Bool
-filtered [] r = false
-filtered (f ∷ fs) r = (among (f .root) (r .gateways) && contains (f .selector) (r .selector)) || filtered fs r
+-- Whether the filter is of a root in G and contains S.
+unfoldable pub filters : Row → Filter → Bool
+filters r f = among (f .root) (r .gateways) && contains (f .selector) (r .selector)
 
--- 15
+-- 14, filtered, by one of so many filters, by number.
+unfoldable pub filtered : (ℕ → Filter) → ℕ → Row → Bool
+filtered at count r = some count (λ k. filters r (at k))
+
+-- 15, layer two.
 unfoldable pub layerTwo : Row → Bool
 layerTwo r = eqb (layerOf (r .technology)) 2 && not (empty (r .gateways))
 
--- 17
+-- 17, cyclic.
 unfoldable pub cyclic : Placed → Bool
 cyclic p = twice (p .from ∷ (p .row .gateways ++ (p .to ∷ [])))
 
@@ -89,13 +86,13 @@ answers q r =
     && (eqb (q .destination) (r .source)
     && (same (q .coefficients) (r .coefficients) && sameSelector (q .selector) (exchange (r .selector))))
 
--- 12, of row i of so many rows, by number.
+-- 12, superfluous, of row i of so many rows, by number.
 unfoldable pub superfluous : (ℕ → Placed) → ℕ → ℕ → Bool
 superfluous at rows i =
     some rows (λ j. not (eqb j i) && rides (at j) (at i))
     && not (some rows (λ j. (not (eqb j i) && rides (at j) (at i)) && not (strictlyStronger (at j .row .coefficients) (at i .row .coefficients))))
 
--- 16, of row i of so many.
+-- 16, asymmetric, of row i of so many.
 unfoldable pub asymmetric : (ℕ → Row) → ℕ → ℕ → Bool
 asymmetric at rows i = not (some rows (λ j. answers (at j) (at i)))
 
@@ -115,7 +112,7 @@ module _ (from to : ℕ → ℕ) (selector : ℕ → Selector) where
       goesOn j a visited s
       && elim (eqb (to j) b) [ true ↦ ltb n 3 | false ↦ chains rows n b (to j) (to j ∷ visited) (meet s (selector j)) ])
 
-  -- 19, of row i of so many.
+  -- 19, alternative path, of row i of so many.
   unfoldable pub alternativePath : ℕ → ℕ → Bool
   alternativePath rows i = chains rows 4 (to i) (from i) (from i ∷ []) (selector i)
 
@@ -156,104 +153,55 @@ pairOf up i j p q =
       confidential = ltb 0 (getD (p .row .coefficients) 2 0) && ltb 0 (getD (q .row .coefficients) 2 0);
     }
 
--- 5
+-- 5, shadowing.
 abbrev pub shadowing : Pair → Bool
 shadowing p = p .group && (p .encloses && not (p .stronger))
 
--- 6
+-- 6, redundancy.
 abbrev pub redundancy : Pair → Bool
 redundancy p = p .group && (p .encloses && p .stronger)
 
--- 7
+-- 7, exception.
 abbrev pub exception : Pair → Bool
 exception p = p .group && (p .enclosed && (not (p .same) && not (p .stronger)))
 
--- 8
+-- 8, correlation.
 abbrev pub correlation : Pair → Bool
 correlation p = p .group && (p .meets && (not (shadowing p) && (not (redundancy p) && not (exception p))))
 
--- 9
+-- 9, inclusion.
 abbrev pub inclusion : Pair → Bool
 inclusion p = p .holder && (p .dominates && (p .encloses && (p .stronger && p .gateways)))
 
--- 9 in the other order.
+-- 9, inclusion, in the other order.
 abbrev pub inclusionBack : Pair → Bool
 inclusionBack p = p .holder && (p .dominated && (p .enclosed && (p .weaker && p .gateways)))
 
--- 10
+-- 10, affinity.
 abbrev pub affinity : Pair → Bool
 affinity p =
     p .earlier
     && (not (p .technology)
     && (not (p .null) && (not (p .«other_null») && (p .meets && (not (inclusion p) && not (inclusionBack p))))))
 
--- 11
+-- 11, contradiction.
 abbrev pub contradiction : Pair → Bool
 contradiction p =
     p .earlier && (((p .null && not (p .«other_null»)) || (not (p .null) && p .«other_null»)) && p .meets)
 
--- 13
+-- 13, skewed.
 abbrev pub skewed : Pair → Bool
 skewed p = p .crossing && (not (p .null) && (not (p .«other_null») && (p .«source_inside» && p .«destination_inside»)))
 
--- 18
+-- 18, monitorable.
 abbrev pub monitorable : Pair → Bool
 monitorable p = p .crossing && (p .through && (not (p .back) && p .confidential))
 
--- The tests of the kinds of two rows at their numbers, from 0, which is no kind, to 20; the others are of one row.
-abbrev pub pairTests : Pair → List Bool
-pairTests p =
-    replicate 5 false
-    ++ (shadowing p
-    ∷ redundancy p
-    ∷ exception p
-    ∷ correlation p
-    ∷ inclusion p
-    ∷ affinity p
-    ∷ contradiction p
-    ∷ false
-    ∷ skewed p
-    ∷ replicate 4 false)
-    ++ (monitorable p ∷ false ∷ false ∷ [])
+-- ---- of a table
 
--- ---- anomalies
+abbrev pub pairAt : Table → ℕ → ℕ → Pair
+pairAt t i j = pairOf (parentOf t) i j (placedAt t i) (placedAt t j)
 
-module _ (t : Table) where
-  abbrev rows : ℕ
-  rows = length (t .rows)
-
-  abbrev pub pairAt : ℕ → ℕ → Pair
-  pairAt i j = pairOf (parentOf t) i j (placedAt t i) (placedAt t j)
-
-  -- 20
-  abbrev pub dead : ℕ → Bool
-  dead i = isNone (verdictOn t i)
-
-  -- The tests of the kinds, from 0, which is no kind, to 20: those of one row where there is no second row, those of two where there is one.
-  abbrev pub tests : Bool → Bool → ℕ → ℕ → List Bool
-  tests alone paired i j =
-      false
-      ∷ (alone && internalLoop (placedAt t i))
-      ∷ (alone && outOfPlace (placedAt t i))
-      ∷ (alone && nonEnforceable (entityAt t (placedAt t i .from) .mask) (entityAt t (placedAt t i .to) .mask) (t .caps) (rowAt t i))
-      ∷ (alone && inadequate (t .floor) (rowAt t i))
-      ∷ (paired && shadowing (pairAt i j))
-      ∷ (paired && redundancy (pairAt i j))
-      ∷ (paired && exception (pairAt i j))
-      ∷ (paired && correlation (pairAt i j))
-      ∷ (paired && inclusion (pairAt i j))
-      ∷ (paired && affinity (pairAt i j))
-      ∷ (paired && contradiction (pairAt i j))
-      ∷ (alone && superfluous (placedAt t) rows i)
-      ∷ (paired && skewed (pairAt i j))
-      ∷ (alone && filtered (t .filters) (rowAt t i))
-      ∷ (alone && layerTwo (rowAt t i))
-      ∷ (alone && asymmetric (rowAt t) rows i)
-      ∷ (alone && cyclic (placedAt t i))
-      ∷ (paired && monitorable (pairAt i j))
-      ∷ (alone && alternativePath (sourceRoot t) (destinationRoot t) (λ k. rowAt t k .selector) rows i)
-      ∷ (alone && dead i)
-      ∷ []
-
-  unfoldable pub anomaly : ℕ → ℕ → ℕ → Bool
-  anomaly i kind j = ltb i rows && getD (tests (eqb j noSecond) (ltb j rows) i j) kind false
+-- 20, dead.
+abbrev pub dead : Table → ℕ → Bool
+dead t i = isNone (verdictOn t i)

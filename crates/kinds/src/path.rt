@@ -1,12 +1,12 @@
 // 19, alternative path: the search for a chain of rows.
 ghost use mathlib.Core.Path.{_≡_};
 ghost use Prim.Native.Nat.{_+_, _≤_, _<_};
-ghost use lib.ListN.{getD};
-ghost use Rattle.policy.specs.Views.{selectorOf, selectorIn};
-ghost use Rattle.kinds.specs.Views.{visitedOf, Grown};
-ghost use Rattle.kinds.specs.Tests.{goesOn, chains as chainsTest, alternativePath};
-use crate::placed::PerRow;
-use crate::roots;
+ghost use Rattle.policy.specs.Limits.{mostGateways, mostRows};
+ghost use Rattle.kinds.specs.Views.{Grown};
+ghost use Rattle.kinds.specs.Seen.{goesOnIn, chainsIn, alternativePathIn};
+use crate::placed::Roots;
+use crate::roots::among_from;
+use policy::row::Gateways;
 use policy::selector::Selector;
 use policy::table;
 use policy::table::Bounds;
@@ -14,13 +14,13 @@ use relations::selector;
 
 // The roots that a chain has visited, the last first: the first `count` of the array.
 pub struct Visited {
-    pub at: [u8; 8],
+    pub at: Gateways,
     pub count: usize,
 }
 
 // The roots with one more.
 fn with(v: Visited, x: u8) -> Visited
-    requires { ⌜ v .count < 8 ⌝ }
+    requires { ⌜ v .count < mostGateways ⌝ }
     ensures { λ r. ⌜ Grown v r x ⌝ }
 {
     let at = v.at;
@@ -33,21 +33,20 @@ fn with(v: Visited, x: u8) -> Visited
 // Whether row j goes on from the root a to one that is not visited, and shares a packet with s.
 fn goes_on<'a>(
     bounds: &'a Bounds,
-    from: &'a PerRow,
-    to: &'a PerRow,
+    roots: &'a Roots,
     j: usize,
     a: u8,
     visited: Visited,
     s: Selector,
 ) -> bool
-    requires { ⌜ (j < 64) × (visited .count ≤ 8) ⌝ }
-    ensures { λ r. ⌜ r ≡ goesOn (λ k. getD (now (from .entry)) k 0) (λ k. getD (now (to .entry)) k 0) (selectorIn (now (bounds .entry))) j a (visitedOf visited) (selectorOf s) ⌝ }
+    requires { ⌜ (j < mostRows) × (visited .count ≤ mostGateways) ⌝ }
+    ensures { λ r. ⌜ r ≡ goesOnIn (now (bounds .entry)) (now (roots .entry)) j a visited s ⌝ }
 {
-    if from[j] != a {
+    if roots[2 * j] != a {
         return false;
     }
     let at = visited.at;
-    if roots::among_from(to[j], at, visited.count, 0) {
+    if among_from(roots[2 * j + 1], at, visited.count, 0) {
         return false;
     }
     selector::inhabited(selector::meet(s, table::selector_at(bounds, j)))
@@ -57,8 +56,7 @@ fn goes_on<'a>(
 // that goes on, and from its end one fewer.
 fn chains<'a>(
     bounds: &'a Bounds,
-    from: &'a PerRow,
-    to: &'a PerRow,
+    roots: &'a Roots,
     rows: usize,
     left: usize,
     b: u8,
@@ -66,8 +64,8 @@ fn chains<'a>(
     visited: Visited,
     s: Selector,
 ) -> bool
-    requires { ⌜ (rows ≤ 64) × (visited .count + left ≤ 8) ⌝ }
-    ensures { λ r. ⌜ r ≡ chainsTest (λ k. getD (now (from .entry)) k 0) (λ k. getD (now (to .entry)) k 0) (selectorIn (now (bounds .entry))) rows left b a (visitedOf visited) (selectorOf s) ⌝ }
+    requires { ⌜ (rows ≤ mostRows) × (visited .count + left ≤ mostGateways) ⌝ }
+    ensures { λ r. ⌜ r ≡ chainsIn (now (bounds .entry)) (now (roots .entry)) rows left b a visited s ⌝ }
 {
     if left == 0 {
         return false;
@@ -76,56 +74,42 @@ fn chains<'a>(
     while j < rows {
         let k = j;
         j += 1;
-        if !goes_on(bounds, from, to, k, a, visited, s) {
+        if !goes_on(bounds, roots, k, a, visited, s) {
             continue;
         }
-        if to[k] == b {
+        let to = roots[2 * k + 1];
+        if to == b {
             if left < 4 {
                 return true;
             }
             continue;
         }
         let m = selector::meet(s, table::selector_at(bounds, k));
-        if chains(
-            bounds,
-            from,
-            to,
-            rows,
-            left - 1,
-            b,
-            to[k],
-            with(visited, to[k]),
-            m,
-        ) {
+        if chains(bounds, roots, rows, left - 1, b, to, with(visited, to), m) {
             return true;
         }
     }
     false
 }
 
-// 19: two to four rows, the number of rows still allowed falling from four
-pub fn alternative_path<'a>(
-    bounds: &'a Bounds,
-    from: &'a PerRow,
-    to: &'a PerRow,
-    rows: usize,
-    i: usize,
-) -> bool
-    requires { ⌜ (rows ≤ 64) × (i < 64) ⌝ }
-    ensures { λ r. ⌜ r ≡ alternativePath (λ k. getD (now (from .entry)) k 0) (λ k. getD (now (to .entry)) k 0) (selectorIn (now (bounds .entry))) rows i ⌝ }
+// 19, alternative path: two to four rows chain from root(s) to root(d) of row i, each beginning at the root where the former ends, no root visited
+// twice, one packet of S in all their boxes. The number of rows still allowed falls from four.
+pub fn alternative_path<'a>(bounds: &'a Bounds, roots: &'a Roots, rows: usize, i: usize) -> bool
+    requires { ⌜ (rows ≤ mostRows) × (i < mostRows) ⌝ }
+    ensures { λ r. ⌜ r ≡ alternativePathIn (now (bounds .entry)) (now (roots .entry)) rows i ⌝ }
 {
+    let from = roots[2 * i];
     let visited = Visited {
-        at: [from[i], 0, 0, 0, 0, 0, 0, 0],
+        at: [from, 0, 0, 0, 0, 0, 0, 0],
         count: 1,
     };
     chains(
         bounds,
-        from,
-        to,
+        roots,
         rows,
         4,
-        to[i],
-        from[i],
+        roots[2 * i + 1],
+        from,
         visited,
         table::selector_at(bounds, i),
     )

@@ -2,14 +2,16 @@
 ghost use mathlib.Core.Path.{_≡_};
 ghost use Prim.Native.Nat.{_≤_};
 ghost use lib.ListN.{take, drop};
-ghost use Rattle.relations.specs.Lists.{among};
+ghost use Rattle.base.specs.Lists.{among};
+ghost use Rattle.policy.specs.Limits.{mostGateways};
 ghost use Rattle.policy.specs.Views.{rowOf};
 ghost use Rattle.kinds.specs.Tests.{inOrder, twice};
+use policy::row::Gateways;
 use policy::row::Row;
 
 // Whether x is among the roots from k on.
-pub fn among_from(x: u8, at: [u8; 8], n: usize, k: usize) -> bool
-    requires { ⌜ n ≤ 8 ⌝ }
+pub fn among_from(x: u8, at: Gateways, n: usize, k: usize) -> bool
+    requires { ⌜ n ≤ mostGateways ⌝ }
     ensures { λ r. ⌜ r ≡ among x (drop k (take n at)) ⌝ }
 {
     let mut m = k;
@@ -23,8 +25,8 @@ pub fn among_from(x: u8, at: [u8; 8], n: usize, k: usize) -> bool
 }
 
 // Whether a stands at some place and b at a later one.
-pub fn in_order(a: u8, b: u8, at: [u8; 8], n: usize) -> bool
-    requires { ⌜ n ≤ 8 ⌝ }
+pub fn in_order(a: u8, b: u8, at: Gateways, n: usize) -> bool
+    requires { ⌜ n ≤ mostGateways ⌝ }
     ensures { λ r. ⌜ r ≡ inOrder a b (take n at) ⌝ }
 {
     let mut k = 0;
@@ -38,8 +40,8 @@ pub fn in_order(a: u8, b: u8, at: [u8; 8], n: usize) -> bool
 }
 
 // Whether some root stands at two places.
-pub fn repeats(at: [u8; 8], n: usize) -> bool
-    requires { ⌜ n ≤ 8 ⌝ }
+pub fn repeats(at: Gateways, n: usize) -> bool
+    requires { ⌜ n ≤ mostGateways ⌝ }
     ensures { λ r. ⌜ r ≡ twice (take n at) ⌝ }
 {
     let mut k = 0;

@@ -2,31 +2,34 @@
 ghost use mathlib.Core.Path.{_≡_};
 ghost use mathlib.Core.List.{map};
 ghost use Prim.Native.Nat.{_≤_, _<_};
-ghost use Rattle.policy.specs.Lists.{tabulate};
-ghost use Rattle.policy.specs.Views.{rowOf, rowIn, coefficientsOf, filterIn};
+ghost use Rattle.policy.specs.Limits.{mostFilters, mostRows, technologies};
+ghost use Rattle.policy.specs.Views.{rowOf, rowIn, coefficientsOf, filterOf, filterIn};
 ghost use Rattle.kinds.specs.Views.{placedOf, placedIn};
-ghost use Rattle.kinds.specs.Tests.{internalLoop, outOfPlace, lacks as lacksTest, nonEnforceable, inadequate as inadequateTest, filtered as filteredTest, layerTwo, cyclic as cyclicTest, rides as ridesTest, strictlyStronger, superfluous as superfluousTest, answers as answersTest, asymmetric as asymmetricTest};
+ghost use Rattle.kinds.specs.Tests.{internalLoop, outOfPlace, lacks as lacksTest, nonEnforceable, inadequate as inadequateTest, filters as filtersTest, filtered as filteredTest, layerTwo, cyclic as cyclicTest, rides as ridesTest, strictlyStronger, superfluous as superfluousTest, answers as answersTest, asymmetric as asymmetricTest};
 use crate::placed;
-use crate::placed::PerRow;
 use crate::placed::Placed;
+use crate::placed::Roots;
 use crate::roots;
 use policy::row::Coefficients;
+use policy::row::Filter;
 use policy::row::Row;
 use policy::table;
 use policy::table::Bounds;
+use policy::table::Caps;
 use policy::table::Heads;
+use policy::table::PerFilter;
 use relations::coefficients;
 use relations::selector;
 use relations::technology;
 
-// 1
+// 1, internal loop: root(s) = root(d).
 pub fn internal_loop(p: Placed) -> bool
     ensures { λ b. ⌜ b ≡ internalLoop (placedOf p) ⌝ }
 {
     p.from == p.to
 }
 
-// 2
+// 2, out of place: holder is not root(s).
 pub fn out_of_place(p: Placed) -> bool
     ensures { λ b. ⌜ b ≡ outOfPlace (placedOf p) ⌝ }
 {
@@ -41,9 +44,9 @@ fn lacks(mask: u8, u: u8) -> bool
     (mask >> u) % 2 == 0
 }
 
-// 3, after the masks of the two roots and the caps
-pub fn non_enforceable(from: u8, to: u8, caps: [Coefficients; 6], r: Row) -> bool
-    requires { ⌜ r .technology ≤ 6 ⌝ }
+// 3, non-enforceable: t isn't NULL, and root(s) or root(d), whose masks are `from` and `to`, lacks t or a coefficient exceeds t's cap.
+pub fn non_enforceable(from: u8, to: u8, caps: Caps, r: Row) -> bool
+    requires { ⌜ r .technology ≤ technologies ⌝ }
     ensures { λ b. ⌜ b ≡ nonEnforceable from to (map coefficientsOf caps) (rowOf r) ⌝ }
 {
     let u = r.technology;
@@ -54,14 +57,14 @@ pub fn non_enforceable(from: u8, to: u8, caps: [Coefficients; 6], r: Row) -> boo
     lacks(from, u) | (lacks(to, u) | !coefficients::at_least(cap, r.coefficients))
 }
 
-// 4
+// 4, inadequate: C ⪰ floor fails.
 pub fn inadequate(floor: Coefficients, r: Row) -> bool
     ensures { λ b. ⌜ b ≡ inadequateTest (coefficientsOf floor) (rowOf r) ⌝ }
 {
     !coefficients::at_least(r.coefficients, floor)
 }
 
-// Whether q rides in p, if it is another row.
+// Whether q rides in p, if it is another row: root(s) of p stands at some place of G of q and root(d) at a later one, and S of p contains S of q.
 fn rides(q: Placed, p: Placed) -> bool
     ensures { λ b. ⌜ b ≡ ridesTest (placedOf q) (placedOf p) ⌝ }
 {
@@ -73,30 +76,29 @@ fn rides(q: Placed, p: Placed) -> bool
     selector::contains(p.row.selector, s.selector)
 }
 
-// Whether c is at least b, and not b.
+// Whether c ⪰ b and c ≠ b.
 fn strictly_stronger(c: Coefficients, b: Coefficients) -> bool
     ensures { λ r. ⌜ r ≡ strictlyStronger (coefficientsOf c) (coefficientsOf b) ⌝ }
 {
     coefficients::at_least(c, b) & !coefficients::equals(c, b)
 }
 
-// 12: some row rides in row i, and every row that rides is strictly stronger
+// 12, superfluous: some row rides in row i, and every j that rides has Cj ⪰ Ci and Cj ≠ Ci.
 pub fn superfluous<'a>(
     heads: &'a Heads,
     bounds: &'a Bounds,
-    from: &'a PerRow,
-    to: &'a PerRow,
+    roots: &'a Roots,
     rows: usize,
     i: usize,
 ) -> bool
-    requires { ⌜ (rows ≤ 64) × (i < 64) ⌝ }
-    ensures { λ b. ⌜ b ≡ superfluousTest (placedIn (now (heads .entry)) (now (bounds .entry)) (now (from .entry)) (now (to .entry))) rows i ⌝ }
+    requires { ⌜ (rows ≤ mostRows) × (i < mostRows) ⌝ }
+    ensures { λ b. ⌜ b ≡ superfluousTest (placedIn (now (heads .entry)) (now (bounds .entry)) (now (roots .entry))) rows i ⌝ }
 {
-    let p = placed::placed_at(heads, bounds, from, to, i);
+    let p = placed::placed_at(heads, bounds, roots, i);
     let mut ridden = false;
     let mut j = 0;
     while j < rows {
-        let q = placed::placed_at(heads, bounds, from, to, j);
+        let q = placed::placed_at(heads, bounds, roots, j);
         let riding = (j != i) & rides(q, p);
         if riding & !strictly_stronger(q.row.coefficients, p.row.coefficients) {
             return false;
@@ -107,15 +109,21 @@ pub fn superfluous<'a>(
     ridden
 }
 
-// 14
-pub fn filtered<'a>(filter_roots: &'a [u8; 32], bounds: &'a Bounds, filters: usize, r: Row) -> bool
-    requires { ⌜ filters ≤ 32 ⌝ }
-    ensures { λ b. ⌜ b ≡ filteredTest (tabulate (filterIn (now («filter_roots» .entry)) (now (bounds .entry))) filters) (rowOf r) ⌝ }
+// Whether the filter is of a root in G and has a box that contains S.
+fn filters(f: Filter, r: Row) -> bool
+    ensures { λ b. ⌜ b ≡ filtersTest (rowOf r) (filterOf f) ⌝ }
+{
+    roots::is_gateway(f.root, r) & selector::contains(f.selector, r.selector)
+}
+
+// 14, filtered: one filter of a root in G has a box that contains S.
+pub fn filtered<'a>(filter_roots: &'a PerFilter, bounds: &'a Bounds, count: usize, r: Row) -> bool
+    requires { ⌜ count ≤ mostFilters ⌝ }
+    ensures { λ b. ⌜ b ≡ filteredTest (filterIn (now («filter_roots» .entry)) (now (bounds .entry))) count (rowOf r) ⌝ }
 {
     let mut k = 0;
-    while k < filters {
-        let f = table::filter_at(filter_roots, bounds, k);
-        if roots::is_gateway(f.root, r) & selector::contains(f.selector, r.selector) {
+    while k < count {
+        if filters(table::filter_at(filter_roots, bounds, k), r) {
             return true;
         }
         k += 1;
@@ -123,14 +131,14 @@ pub fn filtered<'a>(filter_roots: &'a [u8; 32], bounds: &'a Bounds, filters: usi
     false
 }
 
-// 15
+// 15, layer two: t has layer 2 and G isn't empty.
 pub fn layer_two(r: Row) -> bool
     ensures { λ b. ⌜ b ≡ layerTwo (rowOf r) ⌝ }
 {
     (technology::layer(r.technology) == 2) & (r.gateway_count() != 0)
 }
 
-// Whether q answers r: source and destination exchanged, equal coefficients.
+// Whether q answers r: source and destination exchanged, also in the box, and equal coefficients.
 fn answers(q: Row, r: Row) -> bool
     ensures { λ b. ⌜ b ≡ answersTest (rowOf q) (rowOf r) ⌝ }
 {
@@ -144,9 +152,9 @@ fn answers(q: Row, r: Row) -> bool
         & selector::equals(q.selector, selector::exchanged(r.selector))
 }
 
-// 16: no row answers row i
+// 16, asymmetric: no row answers row i.
 pub fn asymmetric<'a>(heads: &'a Heads, bounds: &'a Bounds, rows: usize, i: usize) -> bool
-    requires { ⌜ (rows ≤ 64) × (i < 64) ⌝ }
+    requires { ⌜ (rows ≤ mostRows) × (i < mostRows) ⌝ }
     ensures { λ b. ⌜ b ≡ asymmetricTest (rowIn (now (heads .entry)) (now (bounds .entry))) rows i ⌝ }
 {
     let r = table::row_at(heads, bounds, i);
@@ -160,7 +168,7 @@ pub fn asymmetric<'a>(heads: &'a Heads, bounds: &'a Bounds, rows: usize, i: usiz
     true
 }
 
-// 17
+// 17, cyclic: root(s), G, root(d) in that order name a root twice.
 pub fn cyclic(p: Placed) -> bool
     ensures { λ b. ⌜ b ≡ cyclicTest (placedOf p) ⌝ }
 {

@@ -1,5 +1,4 @@
 -- Laws of the marks, of the entries that are written, and of what a table lends.
 pub mod Numbers
-pub mod Singles
 pub mod Puts
 pub mod Tables

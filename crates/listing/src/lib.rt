@@ -1,4 +1,5 @@
 // The entries of a table's anomalies, in order, in the caller's buffer.
+pub mod limits;
 pub mod marks;
 pub mod put;
 
@@ -6,23 +7,24 @@ ghost use Rattle.policy.specs.Views.{tableOf, Held};
 ghost use Rattle.policy.specs.Wellformed.{Wellformed};
 ghost use Rattle.kinds.specs.Entries.{entries};
 ghost use Rattle.listing.specs.Bytes.{Listing, Put};
+use crate::limits::ENTRY_BYTES;
+use crate::limits::LIST_BYTES;
 use crate::put::Staged;
 use kinds::placed;
 use policy::table::Table;
 
 // How many entries there are, or that they need more room.
-pub enum Listed {
+pub enum Tally {
     Count(usize),
     Short,
 }
 
-// Writes the table's entries into staged from its start. Returns how many there are.
+// Writes the table's entries into staged from its start. Returns how many there are; the other bytes stay.
 fn stage(t: Table, staged: &mut Staged) -> usize
     requires { ⌜ Held t × Wellformed (tableOf t) ⌝ }
     ensures { λ n. ⌜ Put (now (staged .entry)) 0 (now (staged .exit)) n (entries (tableOf t)) ⌝ }
 {
-    let from = placed::roots_of(&t.parents, &t.heads, &t.bounds, t.rows, true);
-    let to = placed::roots_of(&t.parents, &t.heads, &t.bounds, t.rows, false);
+    let roots = placed::roots_of(&t.parents, &t.heads, &t.bounds, t.rows);
     let mut n = 0;
     let mut i = 0;
     while i < t.rows {
@@ -31,32 +33,32 @@ fn stage(t: Table, staged: &mut Staged) -> usize
             &t.masks,
             t.caps,
             t.floor,
-            &t.filter_roots,
             t.filters,
+            &t.filter_roots,
             &t.heads,
             &t.bounds,
-            &from,
-            &to,
+            &roots,
             t.rows,
             i,
         );
-        let pairs = marks::of_pairs(&t.parents, &t.heads, &t.bounds, &from, &to, t.rows, i);
+        let pairs = marks::of_pairs(&t.parents, &t.heads, &t.bounds, &roots, t.rows, i);
         n = put::put_row(staged, n, i as u8, own, &pairs, t.rows);
         i += 1;
     }
     n
 }
 
-// Writes the table's entries into out from its start, three bytes each, if there is room for all.
-pub fn list(t: Table, out: &mut [u8]) -> Listed
+// Writes the table's entries into out from its start, three bytes each, if there is room for all; the rest of out is unchanged, and all of it
+// where it is too short.
+pub fn list(t: Table, out: &mut [u8]) -> Tally
     requires { ⌜ Held t × Wellformed (tableOf t) ⌝ }
     ensures { λ r. ⌜ Listing (entries (tableOf t)) (now (out .entry)) (now (out .exit)) r ⌝ }
 {
-    let mut staged = [0u8; 38400];
+    let mut staged = [0u8; LIST_BYTES];
     let n = stage(t, &mut staged);
-    if out.len() < 3 * n {
-        return Listed::Short;
+    if out.len() < ENTRY_BYTES * n {
+        return Tally::Short;
     }
-    bytes::copy(&staged[..3 * n], out);
-    Listed::Count(n)
+    bytes::copy(&staged[..ENTRY_BYTES * n], out);
+    Tally::Count(n)
 }

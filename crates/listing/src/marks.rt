@@ -1,29 +1,35 @@
 // The kinds that hold of a row, or of two, as a number: bit k for kind k.
 ghost use mathlib.Core.Path.{_≡_};
-ghost use mathlib.Core.List.{map};
-ghost use Prim.Native.Nat.{_≤_, _<_};
-ghost use lib.ListN.{getD};
-ghost use Rattle.policy.specs.Lists.{tabulate};
-ghost use Rattle.policy.specs.Views.{parentIn, rowOf, rowIn, coefficientsOf, filterIn};
+ghost use Prim.Native.Nat.{_+_, _<_};
+ghost use lib.ListN.{length};
+ghost use Rattle.policy.specs.Views.{parentIn, rowOf};
 ghost use Rattle.relations.specs.Entities.{Parents};
-ghost use Rattle.search.specs.Views.{bit as bitOf};
+ghost use Rattle.base.specs.Truths.{bit as bitOf};
 ghost use Rattle.kinds.specs.Views.{placedOf};
-ghost use Rattle.kinds.specs.Tests.{pairOf, pairTests};
-ghost use Rattle.listing.specs.Marks.{number as numberOf, marked as markedTest, rowKinds, GoodRow, GoodRows, PairsMarked};
+ghost use Rattle.kinds.specs.Tests.{pairOf};
+ghost use Rattle.kinds.specs.Kinds.{kindCount, pairTests};
+ghost use Rattle.listing.specs.Marks.{bitsOf, marked as markedTest, GoodRow, GoodAlone, GoodAmong, MarkedAlone, MarkedPairs};
+use kinds::numbers;
 use kinds::pair;
 use kinds::path;
 use kinds::placed;
-use kinds::placed::PerRow;
 use kinds::placed::Placed;
+use kinds::placed::Roots;
 use kinds::single;
+use policy::limits::ROWS;
 use policy::row::Coefficients;
 use policy::table::Bounds;
+use policy::table::Caps;
 use policy::table::Heads;
 use policy::table::PerEntity;
+use policy::table::PerFilter;
 use relations::selector;
 
 // A number for each row.
-pub type Marks = [u32; 64];
+pub type Marks = [u32; ROWS];
+
+// Whether each kind holds, at its number; 0 is no kind's.
+type Holds = [bool; numbers::KINDS + 1];
 
 // 1 if b holds, else 0.
 fn bit(b: bool) -> u32
@@ -32,15 +38,16 @@ fn bit(b: bool) -> u32
     if b { 1 } else { 0 }
 }
 
-// The tests as a number, the first as its last bit.
-fn number(kinds: [bool; 21]) -> u32
-    ensures { λ r. ⌜ r ≡ numberOf kinds ⌝ }
+// The kinds that hold as a number, bit k for kind k.
+fn bits_of(holds: &Holds) -> u32
+    requires { ⌜ length (now holds) ≡ kindCount + 1 ⌝ }
+    ensures { λ r. ⌜ r ≡ bitsOf (now (holds .entry)) ⌝ }
 {
     let mut m = 0;
-    let mut k = 21;
+    let mut k = numbers::KINDS + 1;
     while 0 < k {
         k -= 1;
-        m = 2 * m + bit(kinds[k]);
+        m = 2 * m + bit(holds[k]);
     }
     m
 }
@@ -56,61 +63,42 @@ pub fn marked(m: u32, k: u8) -> bool
 // The kinds of rows i and j, which are p and q. Of boxes that do not overlap there are none.
 fn of_pair(parents: &PerEntity, i: usize, j: usize, p: Placed, q: Placed) -> u32
     requires { ⌜ Parents (now parents) × GoodRow (rowOf (p .row)) × GoodRow (rowOf (q .row)) ⌝ }
-    ensures { λ r. ⌜ r ≡ numberOf (pairTests (pairOf (parentIn (now (parents .entry))) i j (placedOf p) (placedOf q))) ⌝ }
+    ensures { λ r. ⌜ r ≡ bitsOf (pairTests (pairOf (parentIn (now (parents .entry))) i j (placedOf p) (placedOf q))) ⌝ }
 {
-    if selector::overlaps(p.row.selector, q.row.selector) {
-        let s = pair::pair_of(parents, i, j, p, q);
-        return number([
-            false,
-            false,
-            false,
-            false,
-            false,
-            pair::shadowing(s),
-            pair::redundancy(s),
-            pair::exception(s),
-            pair::correlation(s),
-            pair::inclusion(s),
-            pair::affinity(s),
-            pair::contradiction(s),
-            false,
-            pair::skewed(s),
-            false,
-            false,
-            false,
-            false,
-            pair::monitorable(s),
-            false,
-            false,
-        ]);
+    if !selector::overlaps(p.row.selector, q.row.selector) {
+        return 0;
     }
-    0
+    let s = pair::pair_of(parents, i, j, p, q);
+    let mut holds = [false; numbers::KINDS + 1];
+    holds[numbers::SHADOWING] = pair::shadowing(s);
+    holds[numbers::REDUNDANCY] = pair::redundancy(s);
+    holds[numbers::EXCEPTION] = pair::exception(s);
+    holds[numbers::CORRELATION] = pair::correlation(s);
+    holds[numbers::INCLUSION] = pair::inclusion(s);
+    holds[numbers::AFFINITY] = pair::affinity(s);
+    holds[numbers::CONTRADICTION] = pair::contradiction(s);
+    holds[numbers::SKEWED] = pair::skewed(s);
+    holds[numbers::MONITORABLE] = pair::monitorable(s);
+    bits_of(&holds)
 }
 
-// The kinds of row i and each row.
+// The kinds of row i and each row; past the rows zeros.
 pub fn of_pairs<'a>(
     parents: &'a PerEntity,
     heads: &'a Heads,
     bounds: &'a Bounds,
-    from: &'a PerRow,
-    to: &'a PerRow,
+    roots: &'a Roots,
     rows: usize,
     i: usize,
 ) -> Marks
-    requires { ⌜ Parents (now parents) × GoodRows (now heads) (now bounds) rows × (rows ≤ 64) × (i < rows) ⌝ }
-    ensures { λ r. ⌜ PairsMarked (now (parents .entry)) (now (heads .entry)) (now (bounds .entry)) (now (from .entry)) (now (to .entry)) rows i r ⌝ }
+    requires { ⌜ GoodAmong (now parents) (now heads) (now bounds) rows i ⌝ }
+    ensures { λ r. ⌜ MarkedPairs (now (parents .entry)) (now (heads .entry)) (now (bounds .entry)) (now (roots .entry)) rows i r ⌝ }
 {
-    let p = placed::placed_at(heads, bounds, from, to, i);
-    let mut pairs = [0u32; 64];
+    let p = placed::placed_at(heads, bounds, roots, i);
+    let mut pairs = [0u32; ROWS];
     let mut j = 0;
     while j < rows {
-        pairs[j] = of_pair(
-            parents,
-            i,
-            j,
-            p,
-            placed::placed_at(heads, bounds, from, to, j),
-        );
+        pairs[j] = of_pair(parents, i, j, p, placed::placed_at(heads, bounds, roots, j));
         j += 1;
     }
     pairs
@@ -120,43 +108,37 @@ pub fn of_pairs<'a>(
 pub fn of_row<'a>(
     parents: &'a PerEntity,
     masks: &'a PerEntity,
-    caps: [Coefficients; 6],
+    caps: Caps,
     floor: Coefficients,
-    filter_roots: &'a [u8; 32],
     filters: usize,
+    filter_roots: &'a PerFilter,
     heads: &'a Heads,
     bounds: &'a Bounds,
-    from: &'a PerRow,
-    to: &'a PerRow,
+    roots: &'a Roots,
     rows: usize,
     i: usize,
 ) -> u32
-    requires { ⌜ Parents (now parents) × GoodRow (rowIn (now heads) (now bounds) i) × (rows ≤ 64) × (i < 64) × (filters ≤ 32) × (getD (now from) i 0 < 128) × (getD (now to) i 0 < 128) ⌝ }
-    ensures { λ r. ⌜ r ≡ numberOf (rowKinds (now (parents .entry)) (now (masks .entry)) (map coefficientsOf caps) (coefficientsOf floor) (tabulate (filterIn (now («filter_roots» .entry)) (now (bounds .entry))) filters) (now (heads .entry)) (now (bounds .entry)) (now (from .entry)) (now (to .entry)) rows i) ⌝ }
+    requires { ⌜ GoodAlone (now parents) (now heads) (now bounds) (now roots) filters rows i ⌝ }
+    ensures { λ r. ⌜ MarkedAlone (now (parents .entry)) (now (masks .entry)) caps floor filters (now («filter_roots» .entry)) (now (heads .entry)) (now (bounds .entry)) (now (roots .entry)) rows i r ⌝ }
 {
-    let p = placed::placed_at(heads, bounds, from, to, i);
+    let p = placed::placed_at(heads, bounds, roots, i);
     let r = p.row;
-    number([
-        false,
-        single::internal_loop(p),
-        single::out_of_place(p),
-        single::non_enforceable(masks[p.from as usize], masks[p.to as usize], caps, r),
-        single::inadequate(floor, r),
-        false,
-        false,
-        false,
-        false,
-        false,
-        false,
-        false,
-        single::superfluous(heads, bounds, from, to, rows, i),
-        false,
-        single::filtered(filter_roots, bounds, filters, r),
-        single::layer_two(r),
-        single::asymmetric(heads, bounds, rows, i),
-        single::cyclic(p),
-        false,
-        path::alternative_path(bounds, from, to, rows, i),
-        verdicts::is_dead(parents, heads, bounds, i),
-    ])
+    let mut holds = [false; numbers::KINDS + 1];
+    holds[numbers::INTERNAL_LOOP] = single::internal_loop(p);
+    holds[numbers::OUT_OF_PLACE] = single::out_of_place(p);
+    holds[numbers::NON_ENFORCEABLE] = single::non_enforceable(
+        masks[p.from as usize],
+        masks[p.to as usize],
+        caps,
+        r,
+    );
+    holds[numbers::INADEQUATE] = single::inadequate(floor, r);
+    holds[numbers::SUPERFLUOUS] = single::superfluous(heads, bounds, roots, rows, i);
+    holds[numbers::FILTERED] = single::filtered(filter_roots, bounds, filters, r);
+    holds[numbers::LAYER_TWO] = single::layer_two(r);
+    holds[numbers::ASYMMETRIC] = single::asymmetric(heads, bounds, rows, i);
+    holds[numbers::CYCLIC] = single::cyclic(p);
+    holds[numbers::ALTERNATIVE_PATH] = path::alternative_path(bounds, roots, rows, i);
+    holds[numbers::DEAD] = verdicts::is_dead(parents, heads, bounds, i);
+    bits_of(&holds)
 }

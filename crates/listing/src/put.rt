@@ -1,21 +1,25 @@
 // Entries written one after another, three bytes each.
-ghost use Prim.Native.Nat.{_+_, _≤_};
-ghost use lib.ListN.{length};
-ghost use Rattle.listing.specs.Bytes.{Put};
+ghost use Prim.Native.Nat.{_≤_};
+ghost use Rattle.policy.specs.Limits.{mostRows};
+ghost use Rattle.kinds.specs.Kinds.{kindCount};
+ghost use Rattle.listing.specs.Bytes.{Room, Put};
 ghost use Rattle.listing.specs.Marks.{listedIf, pairsMarked, kindMarked, rowMarked};
+use crate::limits::ENTRY_BYTES;
+use crate::limits::LIST_BYTES;
 use crate::marks;
 use crate::marks::Marks;
+use kinds::numbers;
 
-// Room for 12,800 entries.
-pub type Staged = [u8; 38400];
+// Room for as many entries as there can be.
+pub type Staged = [u8; LIST_BYTES];
 
-// Writes the entry after n others, if it is listed. Returns how many there are then.
+// Writes the entry after n others, if it is listed. Returns how many there are then; the other bytes stay.
 fn put(staged: &mut Staged, n: usize, i: u8, kind: u8, j: u8, listed: bool) -> usize
-    requires { ⌜ n + length (listedIf listed i kind j) ≤ 12800 ⌝ }
+    requires { ⌜ Room n (listedIf listed i kind j) ⌝ }
     ensures { λ r. ⌜ Put (now (staged .entry)) n (now (staged .exit)) r (listedIf listed i kind j) ⌝ }
 {
     if listed {
-        let at = 3 * n;
+        let at = ENTRY_BYTES * n;
         staged[at] = i;
         staged[at + 1] = kind;
         staged[at + 2] = j;
@@ -24,7 +28,7 @@ fn put(staged: &mut Staged, n: usize, i: u8, kind: u8, j: u8, listed: bool) -> u
     n
 }
 
-// Writes row i's entries of a kind with each row, after n others.
+// Writes row i's entries of a kind with each row, after n others. Returns how many there are then; the other bytes stay.
 fn put_pairs<'a>(
     staged: &'a mut Staged,
     n: usize,
@@ -33,7 +37,7 @@ fn put_pairs<'a>(
     pairs: &'a Marks,
     rows: usize,
 ) -> usize
-    requires { ⌜ (n + length (pairsMarked (now pairs) rows i kind) ≤ 12800) × (rows ≤ 64) × (kind ≤ 20) ⌝ }
+    requires { ⌜ Room n (pairsMarked (now pairs) rows i kind) × (rows ≤ mostRows) × (kind ≤ kindCount) ⌝ }
     ensures { λ r. ⌜ Put (now (staged .entry)) n (now (staged .exit)) r (pairsMarked (now (pairs .entry)) rows i kind) ⌝ }
 {
     let mut m = n;
@@ -45,7 +49,7 @@ fn put_pairs<'a>(
     m
 }
 
-// Writes row i's entries of a kind, after n others.
+// Writes row i's entries of a kind, with each row and then alone, after n others. Returns how many there are then; the other bytes stay.
 fn put_kind<'a>(
     staged: &'a mut Staged,
     n: usize,
@@ -55,14 +59,21 @@ fn put_kind<'a>(
     pairs: &'a Marks,
     rows: usize,
 ) -> usize
-    requires { ⌜ (n + length (kindMarked own (now pairs) rows i kind) ≤ 12800) × (rows ≤ 64) × (kind ≤ 20) ⌝ }
+    requires { ⌜ Room n (kindMarked own (now pairs) rows i kind) × (rows ≤ mostRows) × (kind ≤ kindCount) ⌝ }
     ensures { λ r. ⌜ Put (now (staged .entry)) n (now (staged .exit)) r (kindMarked own (now (pairs .entry)) rows i kind) ⌝ }
 {
     let m = put_pairs(staged, n, i, kind, pairs, rows);
-    put(staged, m, i, kind, 255, marks::marked(own, kind))
+    put(
+        staged,
+        m,
+        i,
+        kind,
+        numbers::NO_SECOND,
+        marks::marked(own, kind),
+    )
 }
 
-// Writes row i's entries, kind by kind, after n others.
+// Writes row i's entries, kind by kind, after n others. Returns how many there are then; the other bytes stay.
 pub fn put_row<'a>(
     staged: &'a mut Staged,
     n: usize,
@@ -71,12 +82,12 @@ pub fn put_row<'a>(
     pairs: &'a Marks,
     rows: usize,
 ) -> usize
-    requires { ⌜ (n + length (rowMarked own (now pairs) rows i) ≤ 12800) × (rows ≤ 64) ⌝ }
+    requires { ⌜ Room n (rowMarked own (now pairs) rows i) × (rows ≤ mostRows) ⌝ }
     ensures { λ r. ⌜ Put (now (staged .entry)) n (now (staged .exit)) r (rowMarked own (now (pairs .entry)) rows i) ⌝ }
 {
     let mut m = n;
     let mut kind = 1;
-    while kind < 21 {
+    while kind <= numbers::LAST_KIND {
         m = put_kind(staged, m, i, kind, own, pairs, rows);
         kind += 1;
     }

@@ -1,5 +1,5 @@
 -- The laws that crates above cite.
-pub mod Lists
 pub mod Runs
-pub mod Heads
+pub mod Lists
 pub mod Tables
+pub mod Changed

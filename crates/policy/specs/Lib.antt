@@ -1,5 +1,5 @@
 -- What a table holds: document 01's records over lists, the rules that every accepted table keeps, and what the code's structs stand for.
-pub mod Lists
+pub mod Limits
 pub mod Model
 pub mod Wellformed
 pub mod Views

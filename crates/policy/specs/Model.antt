@@ -1,8 +1,8 @@
 -- Document 01, "The table text": what a table holds. Lists have no capacity: nothing here says how many fields, coefficients, entities or rows there are.
 -- Assumes nothing.
-use Prim.Native.Nat.{ℕ}
+use Prim.Native.Nat.{ℕ, _+_}
 use mathlib.Core.List.{List, [], map}
-use lib.ListN.{getD}
+use lib.ListN.{length, getD}
 
 -- The parent of a root: FF.
 abbrev pub noParent : ℕ
@@ -54,6 +54,15 @@ pub record Table : Type 0 where
   pub floor : Coefficients
   pub filters : List Filter
   pub rows : List Row
+
+-- The table with these rows, and all else as it is.
+abbrev pub withRows : List Row → Table → Table
+withRows rows t =
+    record { entities = t .entities; caps = t .caps; floor = t .floor; filters = t .filters; rows = rows }
+
+-- The lines before the rows: those of the entities, the caps, the floor (0 while it has not been read, 1 then) and the filters.
+abbrev pub linesBefore : ℕ → Table → ℕ
+linesBefore floored t = length (t .entities) + length (t .caps) + floored + length (t .filters)
 
 -- What a number stands for that is no entity's, field's, filter's or row's.
 abbrev pub noEntity : Entity

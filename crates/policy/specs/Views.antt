@@ -4,8 +4,9 @@ use Prim.Native.Nat.{ℕ, _+_, _*_, _≤_}
 use mathlib.Core.Path.{_≡_}
 use mathlib.Core.List.{List, [], _∷_, _++_, map}
 use lib.ListN.{getD, take, drop}
-use Rattle.policy.specs.Lists.{tabulate}
-use Rattle.policy.specs.Model.{Entity, Coefficients, Range, Selector, Packet, Filter, Row, Table, noParent}
+use Rattle.base.specs.Lists.{tabulate}
+use Rattle.policy.specs.Limits.{mostEntities, technologies, mostFilters, mostRows, fieldCount, headCount}
+use Rattle.policy.specs.Model.{Entity, Coefficients, Range, Selector, Packet, Filter, Row, Table, noParent, withRows}
 use Rattle.policy.specs.declared.number.Number.{Number as NumberStruct}
 use Rattle.policy.specs.declared.selector.Range.{Range as RangeStruct}
 use Rattle.policy.specs.declared.selector.Selector.{Selector as SelectorStruct}
@@ -73,19 +74,31 @@ parentIn parents e = getD parents e noParent
 abbrev pub entityIn : List ℕ → List ℕ → List ℕ → ℕ → Entity
 entityIn parents layers masks e = record { parent = getD parents e 0; layer = getD layers e 0; mask = getD masks e 0 }
 
+-- The range at m of a run of bounds: its low, then its high.
+unfoldable pub rangeAt : List ℕ → ℕ → Range
+rangeAt bounds m = record { low = getD bounds (2 * m) 0; high = getD bounds (2 * m + 1) 0 }
+
+-- The selector at k of a run of selectors with n fields each.
+abbrev pub selectorAt : ℕ → List ℕ → ℕ → Selector
+selectorAt n bounds k = tabulate (λ f. rangeAt bounds (n * k + f)) n
+
 -- Field f of the selector at k.
 unfoldable pub rangeIn : List ℕ → ℕ → ℕ → Range
-rangeIn bounds k f = record { low = getD bounds (10 * k + 2 * f) 0; high = getD bounds (10 * k + 2 * f + 1) 0 }
+rangeIn bounds k f = rangeAt bounds (fieldCount * k + f)
 
 abbrev pub selectorIn : List ℕ → ℕ → Selector
-selectorIn bounds k = tabulate (rangeIn bounds k) 5
+selectorIn bounds k = tabulate (rangeIn bounds k) fieldCount
 
 abbrev pub filterIn : List ℕ → List ℕ → ℕ → Filter
-filterIn roots bounds k = record { root = getD roots k 0; selector = selectorIn bounds (64 + k) }
+filterIn roots bounds k = record { root = getD roots k 0; selector = selectorIn bounds (mostRows + k) }
 
--- The 16 bytes of the row at i besides its selector.
-unfoldable pub headIn : List ℕ → ℕ → List ℕ
-headIn heads i = tabulate (λ c. getD heads (16 * i + c) 0) 16
+-- The numbers of the thing at i of a run of things with n numbers each.
+unfoldable pub numbersAt : ℕ → List ℕ → ℕ → List ℕ
+numbersAt n run i = tabulate (λ c. getD run (n * i + c) 0) n
+
+-- The bytes of the row at i besides its selector.
+abbrev pub headIn : List ℕ → ℕ → List ℕ
+headIn heads i = numbersAt headCount heads i
 
 abbrev pub rowFrom : List ℕ → Selector → Row
 rowFrom head s =
@@ -120,10 +133,10 @@ tableOf t =
 
 -- The struct has room for what it counts, and no parent past its entities.
 pub record Held (t : TableStruct) : Type 0 where
-  pub entities : t .entities ≤ 128
-  pub capped : t .capped ≤ 6
-  pub filters : t .filters ≤ 32
-  pub rows : t .rows ≤ 64
+  pub entities : t .entities ≤ mostEntities
+  pub capped : t .capped ≤ technologies
+  pub filters : t .filters ≤ mostFilters
+  pub rows : t .rows ≤ mostRows
   pub unused : (e : ℕ) → t .entities ≤ e → parentIn (t .parents) e ≡ noParent
 
 -- The struct t stands for the table p.
@@ -153,5 +166,4 @@ withFilter f t =
     record { entities = t .entities; caps = t .caps; floor = t .floor; filters = t .filters ++ (f ∷ []); rows = t .rows }
 
 abbrev pub withRow : Row → Table → Table
-withRow r t =
-    record { entities = t .entities; caps = t .caps; floor = t .floor; filters = t .filters; rows = t .rows ++ (r ∷ []) }
+withRow r t = withRows (t .rows ++ (r ∷ [])) t

@@ -5,6 +5,7 @@ use mathlib.Core.Path.{_≡_}
 use mathlib.Core.Logic.{_⊎_}
 use mathlib.Core.List.{List, [], _∷_, List·Memᴰ}
 use lib.ListN.{length, getD}
+use Rattle.policy.specs.Limits.{mostEntities, technologies, mostFilters, mostRows, mostGateways, coefficientCount}
 use Rattle.policy.specs.Model.{Entity, Coefficients, Selector, Filter, Row, Table, noParent, noFilter, entityAt, rowAt}
 
 -- "A root (a network node) has parent FF and layer 0 .. bits 0 and 7 are 0."
@@ -37,7 +38,7 @@ Below bound xs = (k : ℕ) → k < length xs → getD xs k 0 < bound
 
 -- Three coefficients, a byte each.
 pub record CoefficientsRule (c : Coefficients) : Type 0 where
-  pub three : length c ≡ 3
+  pub three : length c ≡ coefficientCount
   pub bytes : Below 256 c
 
 -- No low is above its high.
@@ -68,23 +69,23 @@ pub record RowRule (t : Table) (r : Row) : Type 0 where
   pub holder : IsRoot t (r .holder)
   pub source : IsEntity t (r .source)
   pub destination : IsEntity t (r .destination)
-  pub technology : r .technology ≤ 6
+  pub technology : r .technology ≤ technologies
   pub coefficients : CoefficientsRule (r .coefficients)
   -- "NULL with a coefficient above 0" is refused
   pub null : r .technology ≡ 0 → Below 1 (r .coefficients)
   pub selector : SelectorRule (r .selector)
-  pub few-gateways : length (r .gateways) ≤ 8
+  pub few-gateways : length (r .gateways) ≤ mostGateways
   pub gateways : (k : ℕ) → k < length (r .gateways) → IsRoot t (getD (r .gateways) k 0)
 
 -- "1 to 128 entities, six caps .., one floor, 0 to 32 filters, 0 to 64 rows"
 pub record Wellformed (t : Table) : Type 0 where
   pub some-entity : 1 ≤ length (t .entities)
-  pub few-entities : length (t .entities) ≤ 128
+  pub few-entities : length (t .entities) ≤ mostEntities
   pub entity : (k : ℕ) → IsEntity t k → EntityRule t k
-  pub six-caps : length (t .caps) ≡ 6
-  pub cap : (k : ℕ) → k < 6 → CoefficientsRule (getD (t .caps) k [])
+  pub six-caps : length (t .caps) ≡ technologies
+  pub cap : (k : ℕ) → k < technologies → CoefficientsRule (getD (t .caps) k [])
   pub floor : CoefficientsRule (t .floor)
-  pub few-filters : length (t .filters) ≤ 32
+  pub few-filters : length (t .filters) ≤ mostFilters
   pub filter : (k : ℕ) → k < length (t .filters) → FilterRule t (getD (t .filters) k noFilter)
-  pub few-rows : length (t .rows) ≤ 64
+  pub few-rows : length (t .rows) ≤ mostRows
   pub row : (i : ℕ) → i < length (t .rows) → RowRule t (rowAt t i)

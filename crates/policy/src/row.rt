@@ -1,7 +1,9 @@
 // What the frames of a table say: entities, coefficients, filters and rows.
 ghost use mathlib.Core.Path.{_≡_};
 ghost use Prim.Native.Nat.{_≤_};
+ghost use Rattle.policy.specs.Limits.{mostGateways};
 ghost use lib.ListN.{length, take};
+use crate::limits::GATEWAYS;
 use crate::selector::Selector;
 
 pub struct Entity {
@@ -21,6 +23,9 @@ pub struct Filter {
     pub selector: Selector,
 }
 
+// Room for the gateways of a row.
+pub type Gateways = [u8; GATEWAYS];
+
 // The gateways are the first `count` of the array.
 pub struct Row {
     pub holder: u8,
@@ -30,15 +35,15 @@ pub struct Row {
     pub coefficients: Coefficients,
     pub selector: Selector,
     pub count: u8,
-    pub gateways: [u8; 8],
+    pub gateways: Gateways,
 }
 
 impl Row {
     // How many gateways the row has: as many as it counts, and no more than there is room for.
     pub fn gateway_count(self) -> usize
-        ensures { λ r. ⌜ (r ≡ length (take (self .count) (self .gateways))) × (r ≤ 8) ⌝ }
+        ensures { λ r. ⌜ (r ≡ length (take (self .count) (self .gateways))) × (r ≤ mostGateways) ⌝ }
     {
         let n = self.count as usize;
-        if n < 8 { n } else { 8 }
+        if n < GATEWAYS { n } else { GATEWAYS }
     }
 }

@@ -1,9 +1,19 @@
 // The table. Its long parts are arrays of numbers, so that a function that is called in a loop can be lent them; what it
 // looks at comes back as a small struct.
 ghost use mathlib.Core.Path.{_≡_};
-ghost use Prim.Native.Nat.{_+_, _*_, _<_};
+ghost use Prim.Native.Nat.{_+_, _*_, _<_, _≤_};
+ghost use Rattle.policy.specs.Limits.{mostEntities, technologies, mostFilters, mostRows, mostSelectors, fieldCount};
 ghost use Rattle.policy.specs.Views.{rangeOf, selectorOf, rowOf, filterOf, coefficientsOf, entityOf, rangeIn, selectorIn, filterIn, rowIn, tableOf, Held, Stands, noTable, withEntity, withCap, withFloor, withFilter, withRow};
-ghost use Rattle.policy.specs.Writes.{putRange, putFields, putHead};
+ghost use Rattle.policy.specs.Writes.{putRange, putSelector, putHead};
+use crate::limits::BOUND_COUNT;
+use crate::limits::ENTITIES;
+use crate::limits::FIELDS;
+use crate::limits::FILTERS;
+use crate::limits::HEAD_COUNT;
+use crate::limits::NO_PARENT;
+use crate::limits::ROWS;
+use crate::limits::SELECTORS;
+use crate::limits::TECHNOLOGIES;
 use crate::number::Number;
 use crate::row::Coefficients;
 use crate::row::Entity;
@@ -12,14 +22,19 @@ use crate::row::Row;
 use crate::selector::Range;
 use crate::selector::Selector;
 
-// A number for each entity.
-pub type PerEntity = [u8; 128];
+// A number for each entity, and for each filter.
+pub type PerEntity = [u8; ENTITIES];
 
-// 16 bytes for each row: holder, source, destination, technology, three coefficients, the number of gateways, eight gateways.
-pub type Heads = [u8; 1024];
+pub type PerFilter = [u8; FILTERS];
 
-// 10 numbers for each selector: low and high of five fields. First the rows' selectors, then, from the 64th on, the filters'.
-pub type Bounds = [u64; 960];
+// A cap for each technology but NULL.
+pub type Caps = [Coefficients; TECHNOLOGIES];
+
+// So many bytes for each row: holder, source, destination, technology, three coefficients, the number of gateways, eight gateways.
+pub type Heads = [u8; HEAD_COUNT * ROWS];
+
+// Low and high of each field, for each selector: first the rows' selectors, then the filters'.
+pub type Bounds = [u64; BOUND_COUNT * SELECTORS];
 
 pub struct Table {
     // how many entities there are, and of each its parent, layer and mask
@@ -29,11 +44,11 @@ pub struct Table {
     pub masks: PerEntity,
     // how many technologies have their cap, from technology 1 on, and the caps
     pub capped: usize,
-    pub caps: [Coefficients; 6],
+    pub caps: Caps,
     pub floor: Coefficients,
     // how many filters there are, and of each its root
     pub filters: usize,
-    pub filter_roots: [u8; 32],
+    pub filter_roots: PerFilter,
     // how many rows there are, and of each its head
     pub rows: usize,
     pub heads: Heads,
@@ -41,12 +56,21 @@ pub struct Table {
     pub bounds: Bounds,
 }
 
+// The lines of a text before those of its rows: those of the entities, the caps, the floor (0 while it has not been read, 1 then) and the
+// filters.
+pub fn lines_before(entities: usize, caps: usize, floored: u8, filters: usize) -> usize
+    requires { ⌜ (entities ≤ mostEntities) × (caps ≤ technologies) × (filters ≤ mostFilters) ⌝ }
+    ensures { λ r. ⌜ r ≡ entities + caps + floored + filters ⌝ }
+{
+    entities + caps + floored as usize + filters
+}
+
 // Field f of the selector at k.
 pub fn range_at(bounds: &Bounds, k: usize, f: usize) -> Range
-    requires { ⌜ (k < 96) × (f < 5) ⌝ }
+    requires { ⌜ (k < mostSelectors) × (f < fieldCount) ⌝ }
     ensures { λ r. ⌜ rangeOf r ≡ rangeIn (now (bounds .entry)) k f ⌝ }
 {
-    let at = 10 * k + 2 * f;
+    let at = 2 * (FIELDS * k + f);
     Range {
         low: Number::new(bounds[at]),
         high: Number::new(bounds[at + 1]),
@@ -55,7 +79,7 @@ pub fn range_at(bounds: &Bounds, k: usize, f: usize) -> Range
 
 // The selector at k.
 pub fn selector_at(bounds: &Bounds, k: usize) -> Selector
-    requires { ⌜ k < 96 ⌝ }
+    requires { ⌜ k < mostSelectors ⌝ }
     ensures { λ r. ⌜ selectorOf r ≡ selectorIn (now (bounds .entry)) k ⌝ }
 {
     Selector {
@@ -69,10 +93,10 @@ pub fn selector_at(bounds: &Bounds, k: usize) -> Selector
 
 // The row at i.
 pub fn row_at<'a>(heads: &'a Heads, bounds: &'a Bounds, i: usize) -> Row
-    requires { ⌜ i < 64 ⌝ }
+    requires { ⌜ i < mostRows ⌝ }
     ensures { λ r. ⌜ rowOf r ≡ rowIn (now (heads .entry)) (now (bounds .entry)) i ⌝ }
 {
-    let h = 16 * i;
+    let h = HEAD_COUNT * i;
     Row {
         holder: heads[h],
         source: heads[h + 1],
@@ -99,30 +123,30 @@ pub fn row_at<'a>(heads: &'a Heads, bounds: &'a Bounds, i: usize) -> Row
 }
 
 // The filter at k.
-pub fn filter_at<'a>(roots: &'a [u8; 32], bounds: &'a Bounds, k: usize) -> Filter
-    requires { ⌜ k < 32 ⌝ }
+pub fn filter_at<'a>(roots: &'a PerFilter, bounds: &'a Bounds, k: usize) -> Filter
+    requires { ⌜ k < mostFilters ⌝ }
     ensures { λ r. ⌜ filterOf r ≡ filterIn (now (roots .entry)) (now (bounds .entry)) k ⌝ }
 {
     Filter {
         root: roots[k],
-        selector: selector_at(bounds, 64 + k),
+        selector: selector_at(bounds, ROWS + k),
     }
 }
 
-// Writes field f of the selector at k.
+// Writes field f of the selector at k, and changes nothing else.
 fn put_range(bounds: &mut Bounds, k: usize, f: usize, r: Range)
-    requires { ⌜ (k < 96) × (f < 5) ⌝ }
-    ensures { λ _. ⌜ now (bounds .exit) ≡ putRange (now (bounds .entry)) k f (rangeOf r) ⌝ }
+    requires { ⌜ (k < mostSelectors) × (f < fieldCount) ⌝ }
+    ensures { λ _. ⌜ now (bounds .exit) ≡ putRange (now (bounds .entry)) (fieldCount * k + f) (rangeOf r) ⌝ }
 {
-    let at = 10 * k + 2 * f;
-    bounds[at] = r.low.word;
-    bounds[at + 1] = r.high.word;
+    let at = 2 * (FIELDS * k + f);
+    bounds[at] = r.low.as_word();
+    bounds[at + 1] = r.high.as_word();
 }
 
-// Writes the selector at k.
+// Writes the selector at k, and changes nothing else.
 fn put_selector(bounds: &mut Bounds, k: usize, s: Selector)
-    requires { ⌜ k < 96 ⌝ }
-    ensures { λ _. ⌜ now (bounds .exit) ≡ putFields (now (bounds .entry)) k 0 (selectorOf s) ⌝ }
+    requires { ⌜ k < mostSelectors ⌝ }
+    ensures { λ _. ⌜ now (bounds .exit) ≡ putSelector (now (bounds .entry)) k (selectorOf s) ⌝ }
 {
     put_range(bounds, k, 0, s.source_address);
     put_range(bounds, k, 1, s.destination_address);
@@ -131,14 +155,14 @@ fn put_selector(bounds: &mut Bounds, k: usize, s: Selector)
     put_range(bounds, k, 4, s.protocol);
 }
 
-// Writes the 16 bytes of the row at i.
-fn put_head(heads: &mut Heads, i: usize, head: [u8; 16])
-    requires { ⌜ i < 64 ⌝ }
+// Writes the bytes of the row at i besides its selector, and changes nothing else.
+fn put_head(heads: &mut Heads, i: usize, head: [u8; HEAD_COUNT])
+    requires { ⌜ i < mostRows ⌝ }
     ensures { λ _. ⌜ now (heads .exit) ≡ putHead (now (heads .entry)) i head ⌝ }
 {
-    let h = 16 * i;
+    let h = HEAD_COUNT * i;
     let mut c = 0;
-    while c < 16 {
+    while c < HEAD_COUNT {
         heads[h + c] = head[c];
         c += 1;
     }
@@ -156,23 +180,23 @@ impl Table {
         };
         Table {
             entities: 0,
-            parents: [255; 128],
-            layers: [0; 128],
-            masks: [0; 128],
+            parents: [NO_PARENT; ENTITIES],
+            layers: [0; ENTITIES],
+            masks: [0; ENTITIES],
             capped: 0,
-            caps: [zero; 6],
+            caps: [zero; TECHNOLOGIES],
             floor: zero,
             filters: 0,
-            filter_roots: [0; 32],
+            filter_roots: [0; FILTERS],
             rows: 0,
-            heads: [0; 1024],
-            bounds: [0; 960],
+            heads: [0; HEAD_COUNT * ROWS],
+            bounds: [0; BOUND_COUNT * SELECTORS],
         }
     }
 
     // The table with one entity more.
     pub fn with_entity(mut self, e: Entity) -> Table
-        requires { ⌜ Held self × (self .entities < 128) ⌝ }
+        requires { ⌜ Held self × (self .entities < mostEntities) ⌝ }
         ensures { λ r. ⌜ Stands r (withEntity (entityOf e) (tableOf self)) ⌝ }
     {
         let k = self.entities;
@@ -185,7 +209,7 @@ impl Table {
 
     // The table with the next technology's cap.
     pub fn with_cap(mut self, c: Coefficients) -> Table
-        requires { ⌜ Held self × (self .capped < 6) ⌝ }
+        requires { ⌜ Held self × (self .capped < technologies) ⌝ }
         ensures { λ r. ⌜ Stands r (withCap (coefficientsOf c) (tableOf self)) ⌝ }
     {
         let k = self.capped;
@@ -205,19 +229,19 @@ impl Table {
 
     // The table with one filter more.
     pub fn with_filter(mut self, f: Filter) -> Table
-        requires { ⌜ Held self × (self .filters < 32) ⌝ }
+        requires { ⌜ Held self × (self .filters < mostFilters) ⌝ }
         ensures { λ r. ⌜ Stands r (withFilter (filterOf f) (tableOf self)) ⌝ }
     {
         let k = self.filters;
         self.filter_roots[k] = f.root;
-        put_selector(&mut self.bounds, 64 + k, f.selector);
+        put_selector(&mut self.bounds, ROWS + k, f.selector);
         self.filters = k + 1;
         self
     }
 
     // The table with one row more.
     pub fn with_row(mut self, r: Row) -> Table
-        requires { ⌜ Held self × (self .rows < 64) ⌝ }
+        requires { ⌜ Held self × (self .rows < mostRows) ⌝ }
         ensures { λ r'. ⌜ Stands r' (withRow (rowOf r) (tableOf self)) ⌝ }
     {
         let i = self.rows;

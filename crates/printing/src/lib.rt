@@ -1,16 +1,23 @@
-// What the programs rowlist and strike print of their input, from slice to slice.
+// What the programs rowlist and strike print of their input, from slice to slice. Each function writes to the start of out, if there is room
+// for all that it has to write, and returns how many bytes; the rest of out is unchanged. If there is no room it writes nothing and returns 0.
+pub mod limits;
+
 ghost use mathlib.Core.Path.{_≡_};
 ghost use Prim.Native.Nat.{_+_, _≤_};
 ghost use lib.ListN.{length};
 ghost use lib.Seq.{sets};
-ghost use Rattle.printing.specs.Printed.{refusalLine, entryLine, hexLines, rowlistPrints, strikePrints, Prints};
+ghost use Rattle.reader.specs.States.{parse};
+ghost use Rattle.printing.specs.Limits.{lineBytes};
+ghost use Rattle.printing.specs.Printed.{refusalLine, entryLine, hexLines, listPrinted, struckPrinted, rowlistPrints, strikePrints, Prints};
 use analyser::Listed;
 use analyser::Struck;
+use frames::refusals;
+use limits::INPUT;
+use limits::LINE_BYTES;
+use listing::limits::ENTRY_BYTES;
+use listing::limits::LIST_BYTES;
 
-// The longest input that is read as a text: 16 KiB.
-const MOST: usize = 16384;
-
-// Writes the text to the start of out, if there is room for it, and returns its length, or else 0.
+// Writes the text.
 fn put(text: &[u8], out: &mut [u8]) -> usize
     ensures { λ n. ⌜ Prints (now (text .entry)) (now (out .entry)) (now (out .exit)) n ⌝ }
 {
@@ -20,26 +27,26 @@ fn put(text: &[u8], out: &mut [u8]) -> usize
     bytes::copy(text, out)
 }
 
-// The same of the line that a refusal prints.
+// Writes the line that a refusal prints.
 fn put_refusal(number: u8, line: u8, out: &mut [u8]) -> usize
     ensures { λ n. ⌜ Prints (refusalLine number line) (now (out .entry)) (now (out .exit)) n ⌝ }
 {
     put(
         &[
-            33,
+            b'!',
             hex::high_digit(number),
             hex::low_digit(number),
             hex::high_digit(line),
             hex::low_digit(line),
-            10,
+            b'\n',
         ],
         out,
     )
 }
 
-// Writes an entry's line into out at place n.
+// Writes an entry's line into out at place n, and leaves the rest of out unchanged.
 fn put_line(row: u8, kind: u8, second: u8, n: usize, out: &mut [u8])
-    requires { ⌜ n + 7 ≤ length (now out) ⌝ }
+    requires { ⌜ n + lineBytes ≤ length (now out) ⌝ }
     ensures { λ _. ⌜ now (out .exit) ≡ sets (now (out .entry)) n (entryLine row kind second) ⌝ }
 {
     bytes::copy(
@@ -50,57 +57,77 @@ fn put_line(row: u8, kind: u8, second: u8, n: usize, out: &mut [u8])
             hex::low_digit(kind),
             hex::high_digit(second),
             hex::low_digit(second),
-            10,
+            b'\n',
         ],
         &mut out[n..],
     );
 }
 
-// Writes the lines of the entries, whose bytes are given, to the start of out, if there is room for them, and returns their length, or else 0.
+// Writes the lines of the entries whose bytes are given.
 fn put_entries(entries: &[u8], out: &mut [u8]) -> usize
     ensures { λ n. ⌜ Prints (hexLines (now (entries .entry))) (now (out .entry)) (now (out .exit)) n ⌝ }
 {
-    let count = entries.len() / 3;
-    if out.len() / 7 < count {
+    let count = entries.len() / ENTRY_BYTES;
+    if out.len() / LINE_BYTES < count {
         return 0;
     }
     let mut i = 0;
     while i < count {
-        let at = 3 * i;
-        put_line(entries[at], entries[at + 1], entries[at + 2], 7 * i, out);
+        let at = ENTRY_BYTES * i;
+        put_line(
+            entries[at],
+            entries[at + 1],
+            entries[at + 2],
+            LINE_BYTES * i,
+            out,
+        );
         i += 1;
     }
-    7 * count
+    LINE_BYTES * count
 }
 
-// What rowlist prints.
-pub fn rowlist(input: &[u8], out: &mut [u8]) -> usize
-    ensures { λ n. ⌜ Prints (rowlistPrints (now (input .entry))) (now (out .entry)) (now (out .exit)) n ⌝ }
+// What is printed of a text's list: each entry's line, or the refusal's.
+pub fn put_list(text: &[u8], out: &mut [u8]) -> usize
+    ensures { λ n. ⌜ Prints (listPrinted (parse (now (text .entry)))) (now (out .entry)) (now (out .exit)) n ⌝ }
 {
-    if MOST < input.len() {
-        return put(b"!00\n", out);
-    }
-    let mut entries = [0u8; 38400];
-    match analyser::list(input, &mut entries) {
-        Listed::Count(n) => put_entries(&entries[..3 * n], out),
+    let mut entries = [0u8; LIST_BYTES];
+    match analyser::list(text, &mut entries) {
+        Listed::Count(n) => put_entries(&entries[..ENTRY_BYTES * n], out),
         Listed::Refused { number, line } => put_refusal(number, line, out),
     }
 }
 
-// What strike prints.
-pub fn strike(input: &[u8], out: &mut [u8]) -> usize
-    ensures { λ n. ⌜ Prints (strikePrints (now (input .entry))) (now (out .entry)) (now (out .exit)) n ⌝ }
+// What rowlist prints of the input: what is printed of its list, or that the input is too long.
+pub fn rowlist(input: &[u8], out: &mut [u8]) -> usize
+    ensures { λ n. ⌜ Prints (rowlistPrints (now (input .entry))) (now (out .entry)) (now (out .exit)) n ⌝ }
 {
-    if MOST < input.len() {
+    if INPUT < input.len() {
         return put(b"!00\n", out);
     }
-    match analyser::strike(input, out) {
+    put_list(input, out)
+}
+
+// What is printed of a struck text: the text, or the refusal's line.
+pub fn put_struck(text: &[u8], out: &mut [u8]) -> usize
+    ensures { λ n. ⌜ Prints (struckPrinted (now (text .entry)) (parse (now (text .entry)))) (now (out .entry)) (now (out .exit)) n ⌝ }
+{
+    match analyser::strike(text, out) {
         Struck::Length(n) => n,
         Struck::Refused { number, line } => {
-            if number == 8 {
+            if number == refusals::SHORT_OUTPUT {
                 return 0;
             }
             put_refusal(number, line, out)
         }
     }
+}
+
+// What strike prints of the input: what is printed of the struck text, or that the input is too long.
+pub fn strike(input: &[u8], out: &mut [u8]) -> usize
+    ensures { λ n. ⌜ Prints (strikePrints (now (input .entry))) (now (out .entry)) (now (out .exit)) n ⌝ }
+{
+    if INPUT < input.len() {
+        return put(b"!00\n", out);
+    }
+    put_struck(input, out)
 }

@@ -6,7 +6,7 @@ pub mod Takings
 pub mod Runs
 pub mod Wellformed
 pub mod Alike
-pub mod Rows
-pub mod Texts
 pub mod Sequence
 pub mod Rules
+pub mod Rows
+pub mod Texts

@@ -3,27 +3,30 @@
 use Prim.Native.Nat.{ℕ}
 use mathlib.Core.List.{List, [], _∷_}
 use lib.Dec.{eqb}
-use Rattle.hex.specs.Digits.{pick}
-use Rattle.policy.specs.Model.{Entity, Coefficients, Filter, Row}
-use Rattle.frames.specs.Values.{entityLength, entityFrom, capLength, capTechnology, capFrom, floorLength, floorFrom, filterLength, filterFrom, rowLength, rowFrame}
+use Rattle.base.specs.Truths.{pick}
+use Rattle.policy.specs.Model.{Row}
+use Rattle.frames.specs.Kinds.{FrameName, ofRow, Value, describe, frameNames}
 
 pub data Frame : Type 0 where
-  anEntity : Entity → Frame
-  aCap : ℕ → Coefficients → Frame
-  aFloor : Coefficients → Frame
-  aFilter : Filter → Frame
-  aRow : Row → Frame
+  -- of this kind, and what it says
+  aFrame : (k : FrameName) → Value k → Frame
   -- "unknown kind, length not the kind's, n above 8"
   noFrame : Frame
 
+abbrev pub aRow : Row → Frame
+aRow r = aFrame ofRow r
+
 -- The frame of this kind, from the bytes after the kind byte.
+abbrev pub frameIn : FrameName → List ℕ → Frame
+frameIn k bs = pick (describe k .long bs) (aFrame k (describe k .value bs)) noFrame
+
+-- The frame of that of some kinds whose kind byte this is.
+abbrev pub frameAmong : List FrameName → ℕ → List ℕ → Frame
+frameAmong [] byte bs = noFrame
+frameAmong (k ∷ ks) byte bs = pick (eqb byte (describe k .byte)) (frameIn k bs) (frameAmong ks byte bs)
+
 unfoldable pub frameOfKind : ℕ → List ℕ → Frame
-frameOfKind k bs =
-    pick (eqb k 1) (pick (entityLength bs) (anEntity (entityFrom bs)) noFrame)
-    (pick (eqb k 2) (pick (capLength bs) (aCap (capTechnology bs) (capFrom bs)) noFrame)
-    (pick (eqb k 3) (pick (floorLength bs) (aFloor (floorFrom bs)) noFrame)
-    (pick (eqb k 4) (pick (filterLength bs) (aFilter (filterFrom bs)) noFrame)
-    (pick (eqb k 5) (pick (rowLength bs) (aRow (rowFrame bs)) noFrame) noFrame))))
+frameOfKind byte bs = frameAmong frameNames byte bs
 
 unfoldable pub frameOf : List ℕ → Frame
 frameOf [] = noFrame

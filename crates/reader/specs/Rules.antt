@@ -8,16 +8,20 @@ use Rattle.hex.specs.Lines.{isLine, bytesOf}
 use Rattle.policy.specs.Model.{Coefficients, Table}
 use Rattle.policy.specs.Wellformed.{Wellformed}
 use Rattle.reader.specs.Lines.{linesOf, restOf}
-use Rattle.reader.specs.Frames.{Frame, anEntity, aCap, aFloor, aFilter, aRow, frameOf}
+use Rattle.frames.specs.Kinds.{ofEntity, ofCap, ofFloor, ofFilter}
+use Rattle.reader.specs.Frames.{Frame, aFrame, aRow, frameOf}
 
 -- "six caps for technologies 1 to 6 in order"
 abbrev pub capFrames : ℕ → List Coefficients → List Frame
 capFrames technology [] = []
-capFrames technology (c ∷ cs) = aCap technology c ∷ capFrames (suc technology) cs
+capFrames technology (c ∷ cs) =
+    aFrame ofCap (record { technology = technology; coefficients = c }) ∷ capFrames (suc technology) cs
 
 -- "Sequence: .. entities, six caps .., one floor, .. filters, .. rows."
 abbrev pub framesOf : Table → List Frame
-framesOf t = map anEntity (t .entities) ++ (capFrames 1 (t .caps) ++ (aFloor (t .floor) ∷ (map aFilter (t .filters) ++ map aRow (t .rows))))
+framesOf t =
+    map (aFrame ofEntity) (t .entities)
+    ++ (capFrames 1 (t .caps) ++ (aFrame ofFloor (t .floor) ∷ (map (aFrame ofFilter) (t .filters) ++ map aRow (t .rows))))
 
 -- The text says the table t, and keeps the rules.
 pub record KeepsRules (text : List ℕ) (t : Table) : Type 0 where

@@ -1,6 +1,4 @@
 -- The laws that crates above cite.
-pub mod Decides
-pub mod Lists
 pub mod Relations
 pub mod Parents
 pub mod Entities

@@ -2,11 +2,11 @@
 -- Assumes nothing.
 use Prim.Native.Nat.{ℕ, _<_}
 use mathlib.Core.Path.{_≡_}
-use mathlib.Core.Bool.{Bool, true, false, _&&_}
-use mathlib.Core.List.{[], _∷_}
+use mathlib.Core.Bool.{Bool}
 use lib.Dec.{leb}
 use lib.ListN.{length, getD}
 use Rattle.policy.specs.Model.{Coefficients}
+use Rattle.base.specs.Pairs.{pairwise}
 
 -- "C1 ⪰ C2: no coefficient of C1 is smaller."
 pub record AtLeast (c1 c2 : Coefficients) : Type 0 where
@@ -14,7 +14,4 @@ pub record AtLeast (c1 c2 : Coefficients) : Type 0 where
   pub none-smaller : (k : ℕ) → getD c1 k 0 < getD c2 k 0 → ⊥
 
 unfoldable pub atLeast : Coefficients → Coefficients → Bool
-atLeast [] [] = true
-atLeast [] (y ∷ c2) = false
-atLeast (x ∷ c1) [] = false
-atLeast (x ∷ c1) (y ∷ c2) = leb y x && atLeast c1 c2
+atLeast c1 c2 = pairwise (λ x y. leb y x) c1 c2

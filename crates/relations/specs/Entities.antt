@@ -6,9 +6,10 @@ use mathlib.Core.Bool.{Bool, true, false}
 use mathlib.Core.List.{List, [], _∷_, List·Memᴰ}
 use lib.Dec.{eqb}
 use lib.ListN.{length}
+use Rattle.policy.specs.Limits.{mostEntities}
 use Rattle.policy.specs.Model.{noParent}
 use Rattle.policy.specs.Views.{parentIn}
-use Rattle.relations.specs.Lists.{among}
+use Rattle.base.specs.Lists.{among}
 use Rattle.relations.specs.Relations.{relationBy}
 use Rattle.relations.specs.declared.relation.Relation.{Relation}
 use Rattle.relations.specs.declared.relation.Relation.the-variants.{Equal, Above, Below, Kin, Disjoint}
@@ -19,8 +20,14 @@ pub record Tree (up : ℕ → ℕ) : Type 0 where
 
 -- The parents of all entities, as a table lends them.
 pub record Parents (parents : List ℕ) : Type 0 where
-  pub full : length parents ≡ 128
+  pub full : length parents ≡ mostEntities
   pub tree : Tree (parentIn parents)
+
+-- What is asked of the parents that are lent and of two entities, the ends of a probe or of a row.
+pub record TwoEntities (lent : List ℕ) (a b : ℕ) : Type 0 where
+  pub parents : Parents lent
+  pub source : a < mostEntities
+  pub destination : b < mostEntities
 
 -- e and its parents upward, at most n of them.
 unfoldable pub upward : (ℕ → ℕ) → ℕ → ℕ → List ℕ

@@ -8,9 +8,11 @@ use lib.Dec.{eqb}
 use lib.ListN.{length, getD}
 use Rattle.policy.specs.Model.{Packet, Row, Table, noRow, rowAt, parentOf}
 use Rattle.policy.specs.Wellformed.{IsEntity}
-use Rattle.relations.specs.Lists.{same}
+use Rattle.base.specs.Lists.{same}
 use Rattle.relations.specs.Entities.{AtOrAbove, atOrAbove}
 use Rattle.relations.specs.Selectors.{Holds, holds}
+use Rattle.policy.specs.Views.{packetOf}
+use Rattle.relations.specs.declared.group.Probe.{Probe as ProbeStruct}
 use Rattle.relations.specs.declared.group.Outcome.{Outcome}
 use Rattle.relations.specs.declared.group.Outcome.the-variants.{Won, Nobody}
 
@@ -59,6 +61,10 @@ winnerFrom up g a b p i (r ∷ rs) =
 -- The winner of a probe in the group that row g names.
 unfoldable pub winnerIn : (ℕ → ℕ) → List Row → ℕ → ℕ → ℕ → Packet → Outcome
 winnerIn up rows g a b p = winnerFrom up (getD rows g noRow) a b p 0 rows
+
+-- The same, of the probe that a struct holds.
+abbrev pub winnerOfProbe : (ℕ → ℕ) → List Row → ℕ → ProbeStruct → Outcome
+winnerOfProbe up rows g p = winnerIn up rows g (p .source) (p .destination) (packetOf (p .packet))
 
 abbrev pub winner : Table → ℕ → ℕ → ℕ → Packet → Outcome
 winner t g a b p = winnerIn (parentOf t) (t .rows) g a b p

@@ -6,6 +6,11 @@ use mathlib.Core.Logic.{_⊎_}
 use Rattle.relations.specs.declared.relation.Relation.{Relation}
 use Rattle.relations.specs.declared.relation.Relation.the-variants.{Equal, Above, Below, Kin, Disjoint}
 
+-- All of the statements hold.
+abbrev pub AllOf : List (Type 0) → Type 0
+AllOf [] = Unit {0}
+AllOf (P ∷ Ps) = P × AllOf Ps
+
 -- None of the statements holds.
 abbrev pub NoneOf : List (Type 0) → Type 0
 NoneOf [] = Unit {0}

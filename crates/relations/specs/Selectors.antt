@@ -1,42 +1,47 @@
 -- Document 01, "Relations": selectors (boxes) and packets, for any number of fields.
 -- Assumes nothing.
-use mathlib.Core.Bool.{Bool, true, false, _&&_}
-use mathlib.Core.List.{List, [], _∷_, List·Memᴰ}
+use mathlib.Core.Bool.{Bool, true, _&&_}
+use mathlib.Core.List.{List, [], _∷_, map, List·Memᴰ}
+use lib.Dec.{leb}
 use Rattle.policy.specs.Model.{Selector, Packet}
+use Rattle.base.specs.Pairs.{pairwise, Pairwise}
 use Rattle.relations.specs.Ranges.{Within, within, containsRange, overlapsRange, inhabitedRange, sameRange, meetRange}
+
+-- The packet of the lows, and that of the highs.
+abbrev pub lows : Selector → Packet
+lows s = map (λ r. r .low) s
+
+abbrev pub highs : Selector → Packet
+highs s = map (λ r. r .high) s
+
+-- No number of p is above that of q in the same field.
+abbrev pub noneAbove : Packet → Packet → Bool
+noneAbove p q = pairwise leb p q
 
 -- The packet is in the selector: each number in its field's range.
 unfoldable pub Holds : Selector → Packet → Type 0
-Holds [] [] = Unit {0}
-Holds [] (x ∷ p) = ⊥
-Holds (r ∷ s) [] = ⊥
-Holds (r ∷ s) (x ∷ p) = Within r x × Holds s p
+Holds s p = Pairwise Within s p
 
 unfoldable pub holds : Selector → Packet → Bool
-holds [] [] = true
-holds [] (x ∷ p) = false
-holds (r ∷ s) [] = false
-holds (r ∷ s) (x ∷ p) = within r x && holds s p
+holds s p = pairwise within s p
 
 -- "S1 ⪰ S2: every packet of S2 is in S1."
 abbrev pub Contains : Selector → Selector → Type 0
 Contains s1 s2 = (p : Packet) → Holds s2 p → Holds s1 p
 
 unfoldable pub contains : Selector → Selector → Bool
-contains [] [] = true
-contains [] (q ∷ s2) = false
-contains (r ∷ s1) [] = false
-contains (r ∷ s1) (q ∷ s2) = containsRange r q && contains s1 s2
+contains s1 s2 = pairwise containsRange s1 s2
 
 -- "Overlap: some packet is in both."
 abbrev pub Overlap : Selector → Selector → Type 0
 Overlap s1 s2 = (p : Packet) × Holds s1 p × Holds s2 p
 
 unfoldable pub overlaps : Selector → Selector → Bool
-overlaps [] [] = true
-overlaps [] (q ∷ s2) = false
-overlaps (r ∷ s1) [] = false
-overlaps (r ∷ s1) (q ∷ s2) = overlapsRange r q && overlaps s1 s2
+overlaps s1 s2 = pairwise overlapsRange s1 s2
+
+-- Whether two selectors are the same.
+unfoldable pub sameSelector : Selector → Selector → Bool
+sameSelector s1 s2 = pairwise sameRange s1 s2
 
 -- Some packet is in the selector.
 abbrev pub Inhabited : Selector → Type 0
@@ -66,10 +71,3 @@ unfoldable pub exchange : {A : Type 0} → List A → List A
 exchange [] = []
 exchange (x ∷ []) = x ∷ []
 exchange (x ∷ y ∷ l) = y ∷ x ∷ exchange l
-
--- Whether two selectors are the same.
-unfoldable pub sameSelector : Selector → Selector → Bool
-sameSelector [] [] = true
-sameSelector [] (q ∷ s2) = false
-sameSelector (r ∷ s1) [] = false
-sameSelector (r ∷ s1) (q ∷ s2) = sameRange r q && sameSelector s1 s2

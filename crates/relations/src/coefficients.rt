@@ -1,7 +1,7 @@
 // Coefficients of protection.
 ghost use mathlib.Core.Path.{_≡_};
 ghost use Rattle.policy.specs.Views.{coefficientsOf};
-ghost use Rattle.relations.specs.Lists.{same};
+ghost use Rattle.base.specs.Lists.{same};
 ghost use Rattle.relations.specs.Coefficients.{atLeast};
 use policy::row::Coefficients;
 

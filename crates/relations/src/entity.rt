@@ -1,21 +1,23 @@
-// Entities. The parents of all are lent, by entity number.
+// Entities. The parents of all are lent, by entity number, and left unchanged.
 ghost use mathlib.Core.Path.{_≡_};
 ghost use Prim.Native.Nat.{_<_};
+ghost use Rattle.policy.specs.Limits.{mostEntities};
 ghost use Rattle.policy.specs.Views.{parentIn};
 ghost use Rattle.relations.specs.Entities.{Parents, rootOf, atOrAbove, entityRelation};
 use crate::relation;
 use crate::relation::Relation;
+use policy::limits::NO_PARENT;
 use policy::table::PerEntity;
 
 // The root of e: the entity at the top of its parents.
 pub fn root(parents: &PerEntity, e: u8) -> u8
-    requires { ⌜ Parents (now parents) × (e < 128) ⌝ }
+    requires { ⌜ Parents (now parents) × (e < mostEntities) ⌝ }
     ensures { λ r. ⌜ r ≡ rootOf (parentIn (now (parents .entry))) e ⌝ }
 {
     let mut at = e;
     loop {
         let up = parents[at as usize];
-        if up == 255 {
+        if up == NO_PARENT {
             return at;
         }
         at = up;
@@ -24,7 +26,7 @@ pub fn root(parents: &PerEntity, e: u8) -> u8
 
 // Whether e ⪰ f: e is f or among f's parents upward.
 pub fn at_or_above(parents: &PerEntity, e: u8, f: u8) -> bool
-    requires { ⌜ Parents (now parents) × (f < 128) ⌝ }
+    requires { ⌜ Parents (now parents) × (f < mostEntities) ⌝ }
     ensures { λ r. ⌜ r ≡ atOrAbove (parentIn (now (parents .entry))) e f ⌝ }
 {
     let mut at = f;
@@ -33,7 +35,7 @@ pub fn at_or_above(parents: &PerEntity, e: u8, f: u8) -> bool
             return true;
         }
         let parent = parents[at as usize];
-        if parent == 255 {
+        if parent == NO_PARENT {
             return false;
         }
         at = parent;
@@ -42,7 +44,7 @@ pub fn at_or_above(parents: &PerEntity, e: u8, f: u8) -> bool
 
 // How e stands to f.
 pub fn relation(parents: &PerEntity, e: u8, f: u8) -> Relation
-    requires { ⌜ Parents (now parents) × (e < 128) × (f < 128) ⌝ }
+    requires { ⌜ Parents (now parents) × (e < mostEntities) × (f < mostEntities) ⌝ }
     ensures { λ r. ⌜ r ≡ entityRelation (parentIn (now (parents .entry))) e f ⌝ }
 {
     relation::by(

@@ -1,13 +1,15 @@
-// Groups of rows, the probes that a row matches, and the winner of a probe.
+// Groups of rows, the probes that a row matches, and the winner of a probe. Nothing that is lent is changed.
 ghost use mathlib.Core.Path.{_≡_};
 ghost use Prim.Native.Nat.{_<_, _≤_};
 ghost use lib.ListN.{take};
+ghost use Rattle.policy.specs.Limits.{mostGateways, mostRows};
 ghost use Rattle.policy.specs.Views.{parentIn, rowOf, packetOf, rowsIn};
-ghost use Rattle.relations.specs.Lists.{same};
-ghost use Rattle.relations.specs.Entities.{Parents};
-ghost use Rattle.relations.specs.Groups.{sameGroup, matches as matchesTest, winnerIn};
+ghost use Rattle.base.specs.Lists.{same};
+ghost use Rattle.relations.specs.Entities.{TwoEntities};
+ghost use Rattle.relations.specs.Groups.{sameGroup, matches as matchesTest, winnerOfProbe};
 use crate::entity;
 use crate::selector;
+use policy::row::Gateways;
 use policy::row::Row;
 use policy::selector::Packet;
 use policy::table;
@@ -29,8 +31,8 @@ pub struct Probe {
 }
 
 // Whether the first n of both arrays are the same.
-fn same_first(a: [u8; 8], b: [u8; 8], n: usize) -> bool
-    requires { ⌜ n ≤ 8 ⌝ }
+fn same_first(a: Gateways, b: Gateways, n: usize) -> bool
+    requires { ⌜ n ≤ mostGateways ⌝ }
     ensures { λ r. ⌜ r ≡ same (take n a) (take n b) ⌝ }
 {
     let mut k = 0;
@@ -71,7 +73,7 @@ pub fn same_group(a: Row, b: Row) -> bool
 
 // Whether the row matches the probe.
 pub fn matches(parents: &PerEntity, r: Row, p: Probe) -> bool
-    requires { ⌜ Parents (now parents) × (p .source < 128) × (p .destination < 128) ⌝ }
+    requires { ⌜ TwoEntities (now parents) (p .source) (p .destination) ⌝ }
     ensures { λ b. ⌜ b ≡ matchesTest (parentIn (now (parents .entry))) (rowOf r) (p .source) (p .destination) (packetOf (p .packet)) ⌝ }
 {
     entity::at_or_above(parents, r.source, p.source)
@@ -88,8 +90,8 @@ pub fn winner<'a>(
     g: usize,
     p: Probe,
 ) -> Outcome
-    requires { ⌜ Parents (now parents) × (p .source < 128) × (p .destination < 128) × (g < rows) × (rows ≤ 64) ⌝ }
-    ensures { λ r. ⌜ r ≡ winnerIn (parentIn (now (parents .entry))) (rowsIn (now (heads .entry)) (now (bounds .entry)) rows) g (p .source) (p .destination) (packetOf (p .packet)) ⌝ }
+    requires { ⌜ TwoEntities (now parents) (p .source) (p .destination) × (g < rows) × (rows ≤ mostRows) ⌝ }
+    ensures { λ r. ⌜ r ≡ winnerOfProbe (parentIn (now (parents .entry))) (rowsIn (now (heads .entry)) (now (bounds .entry)) rows) g p ⌝ }
 {
     let named = table::row_at(heads, bounds, g);
     let mut i = 0;

@@ -2,6 +2,7 @@
 pub mod coefficients;
 pub mod entity;
 pub mod group;
+pub mod range;
 pub mod relation;
 pub mod selector;
 pub mod technology;

@@ -2,6 +2,7 @@
 ghost use mathlib.Core.Path.{_≡_};
 ghost use Rattle.relations.specs.Relations.{relationBy};
 
+// One of five, and no two.
 pub enum Relation {
     Equal,
     // the first ⪰ the second, or dominates it

@@ -1,129 +1,91 @@
-// Selectors and packets. Each relation goes field by field.
+// Selectors and packets. Every relation of selectors is one of their lowest and highest packets, field by field.
 ghost use mathlib.Core.Path.{_≡_};
-ghost use mathlib.Core.Bool.{true, _&&_};
-ghost use Rattle.policy.specs.Views.{value, rangeOf, selectorOf, packetOf};
-ghost use Rattle.relations.specs.Ranges.{within, containsRange, overlapsRange, sameRange, inhabitedRange, meetRange};
-ghost use Rattle.relations.specs.Selectors.{holds as holdsTest, contains as containsTest, overlaps as overlapsTest, inhabited as inhabitedTest, meet as meetOf, exchange, sameSelector};
-use policy::number::Number;
+ghost use Rattle.policy.specs.Views.{selectorOf, packetOf};
+ghost use Rattle.relations.specs.Selectors.{lows, highs, noneAbove, holds as holdsTest, contains as containsTest, overlaps as overlapsTest, inhabited as inhabitedTest, meet as meetOf, exchange, sameSelector};
+use crate::range;
 use policy::selector::Packet;
-use policy::selector::Range;
 use policy::selector::Selector;
 
-// Whether the number is in the range.
-fn range_holds(r: Range, x: Number) -> bool
-    ensures { λ b. ⌜ b ≡ within (rangeOf r) (value x) ⌝ }
+// The packet of the lows.
+fn lowest(s: Selector) -> Packet
+    ensures { λ p. ⌜ packetOf p ≡ lows (selectorOf s) ⌝ }
 {
-    r.low.at_most(x) & x.at_most(r.high)
-}
-
-// Whether every number of q is in r.
-fn range_contains(r: Range, q: Range) -> bool
-    ensures { λ b. ⌜ b ≡ containsRange (rangeOf r) (rangeOf q) ⌝ }
-{
-    r.low.at_most(q.low) & q.high.at_most(r.high)
-}
-
-// Whether some number is in both ranges.
-fn range_overlaps(r: Range, q: Range) -> bool
-    ensures { λ b. ⌜ b ≡ overlapsRange (rangeOf r) (rangeOf q) ⌝ }
-{
-    r.low.at_most(q.high) & q.low.at_most(r.high)
-}
-
-// Whether the two ranges are the same.
-fn range_equals(r: Range, q: Range) -> bool
-    ensures { λ b. ⌜ b ≡ sameRange (rangeOf r) (rangeOf q) ⌝ }
-{
-    r.low.equals(q.low) & r.high.equals(q.high)
-}
-
-// Whether some number is in the range.
-fn range_inhabited(r: Range) -> bool
-    ensures { λ b. ⌜ b ≡ inhabitedRange (rangeOf r) ⌝ }
-{
-    r.low.at_most(r.high)
-}
-
-// The numbers that are in both ranges.
-fn range_meet(r: Range, q: Range) -> Range
-    ensures { λ b. ⌜ rangeOf b ≡ meetRange (rangeOf r) (rangeOf q) ⌝ }
-{
-    Range {
-        low: r.low.greater(q.low),
-        high: r.high.lesser(q.high),
+    let source_address = s.source_address.low;
+    let destination_address = s.destination_address.low;
+    let source_port = s.source_port.low;
+    let destination_port = s.destination_port.low;
+    let protocol = s.protocol.low;
+    Packet {
+        source_address,
+        destination_address,
+        source_port,
+        destination_port,
+        protocol,
     }
 }
 
-// Whether all five hold.
-fn all(a: bool, b: bool, c: bool, d: bool, e: bool) -> bool
-    ensures { λ r. ⌜ r ≡ (a && (b && (c && (d && (e && true))))) ⌝ }
+// The packet of the highs.
+fn highest(s: Selector) -> Packet
+    ensures { λ p. ⌜ packetOf p ≡ highs (selectorOf s) ⌝ }
 {
-    a & b & c & d & e
+    let source_address = s.source_address.high;
+    let destination_address = s.destination_address.high;
+    let source_port = s.source_port.high;
+    let destination_port = s.destination_port.high;
+    let protocol = s.protocol.high;
+    Packet {
+        source_address,
+        destination_address,
+        source_port,
+        destination_port,
+        protocol,
+    }
+}
+
+// Whether no number of p is above that of q in the same field.
+fn none_above(p: Packet, q: Packet) -> bool
+    ensures { λ r. ⌜ r ≡ noneAbove (packetOf p) (packetOf q) ⌝ }
+{
+    p.source_address.at_most(q.source_address)
+        & (p.destination_address.at_most(q.destination_address)
+            & (p.source_port.at_most(q.source_port)
+                & (p.destination_port.at_most(q.destination_port)
+                    & p.protocol.at_most(q.protocol))))
 }
 
 // Whether the packet is in the selector.
 pub fn holds(s: Selector, p: Packet) -> bool
     ensures { λ r. ⌜ r ≡ holdsTest (selectorOf s) (packetOf p) ⌝ }
 {
-    all(
-        range_holds(s.source_address, p.source_address),
-        range_holds(s.destination_address, p.destination_address),
-        range_holds(s.source_port, p.source_port),
-        range_holds(s.destination_port, p.destination_port),
-        range_holds(s.protocol, p.protocol),
-    )
+    none_above(lowest(s), p) & none_above(p, highest(s))
 }
 
-// Whether every packet of b is in a.
+// Whether every packet of b is in a, where both have packets.
 pub fn contains(a: Selector, b: Selector) -> bool
     ensures { λ r. ⌜ r ≡ containsTest (selectorOf a) (selectorOf b) ⌝ }
 {
-    all(
-        range_contains(a.source_address, b.source_address),
-        range_contains(a.destination_address, b.destination_address),
-        range_contains(a.source_port, b.source_port),
-        range_contains(a.destination_port, b.destination_port),
-        range_contains(a.protocol, b.protocol),
-    )
+    none_above(lowest(a), lowest(b)) & none_above(highest(b), highest(a))
 }
 
-// Whether some packet is in both.
+// Whether some packet is in both, where each has one.
 pub fn overlaps(a: Selector, b: Selector) -> bool
     ensures { λ r. ⌜ r ≡ overlapsTest (selectorOf a) (selectorOf b) ⌝ }
 {
-    all(
-        range_overlaps(a.source_address, b.source_address),
-        range_overlaps(a.destination_address, b.destination_address),
-        range_overlaps(a.source_port, b.source_port),
-        range_overlaps(a.destination_port, b.destination_port),
-        range_overlaps(a.protocol, b.protocol),
-    )
+    none_above(lowest(a), highest(b)) & none_above(lowest(b), highest(a))
 }
 
 // Whether the two are the same.
 pub fn equals(a: Selector, b: Selector) -> bool
     ensures { λ r. ⌜ r ≡ sameSelector (selectorOf a) (selectorOf b) ⌝ }
 {
-    all(
-        range_equals(a.source_address, b.source_address),
-        range_equals(a.destination_address, b.destination_address),
-        range_equals(a.source_port, b.source_port),
-        range_equals(a.destination_port, b.destination_port),
-        range_equals(a.protocol, b.protocol),
-    )
+    contains(a, b) & contains(b, a)
 }
 
 // Whether some packet is in the selector.
 pub fn inhabited(s: Selector) -> bool
     ensures { λ r. ⌜ r ≡ inhabitedTest (selectorOf s) ⌝ }
 {
-    all(
-        range_inhabited(s.source_address),
-        range_inhabited(s.destination_address),
-        range_inhabited(s.source_port),
-        range_inhabited(s.destination_port),
-        range_inhabited(s.protocol),
-    )
+    none_above(lowest(s), highest(s))
 }
 
 // The selector of the packets that are in both.
@@ -131,11 +93,11 @@ pub fn meet(a: Selector, b: Selector) -> Selector
     ensures { λ r. ⌜ selectorOf r ≡ meetOf (selectorOf a) (selectorOf b) ⌝ }
 {
     Selector {
-        source_address: range_meet(a.source_address, b.source_address),
-        destination_address: range_meet(a.destination_address, b.destination_address),
-        source_port: range_meet(a.source_port, b.source_port),
-        destination_port: range_meet(a.destination_port, b.destination_port),
-        protocol: range_meet(a.protocol, b.protocol),
+        source_address: range::meet(a.source_address, b.source_address),
+        destination_address: range::meet(a.destination_address, b.destination_address),
+        source_port: range::meet(a.source_port, b.source_port),
+        destination_port: range::meet(a.destination_port, b.destination_port),
+        protocol: range::meet(a.protocol, b.protocol),
     }
 }
 

@@ -1,13 +1,14 @@
-// Prints the list of the faults of the table on standard input.
-use libc::STDIN_FILENO;
-use libc::STDOUT_FILENO;
+// Prints the list of the faults of the table on standard input. Where the input can't be read, nothing is printed.
+use printing::limits;
 
 fn main() {
-    // one byte more than 16 KiB tells that the input is longer
-    let mut input = [0u8; 16385];
-    let length = io::read_full(STDIN_FILENO, &mut input);
-    // 12,800 lines of seven bytes
-    let mut out = [0u8; 89600];
+    let mut input = [0u8; limits::INPUT_BUFFER];
+    let got = standard::read(&mut input);
+    if got.failed {
+        return;
+    }
+    let length = got.length;
+    let mut out = [0u8; limits::PRINTED];
     let n = printing::rowlist(&input[..length], &mut out);
-    io::write_all(STDOUT_FILENO, &out[..n]);
+    standard::print(&out[..n]);
 }

@@ -5,7 +5,7 @@ use mathlib.Core.Path.{_≡_}
 use mathlib.Core.List.{List, [], _∷_, List·Memᴰ}
 use Rattle.policy.specs.Model.{Selector, Packet}
 use Rattle.relations.specs.Selectors.{Holds}
-use Rattle.search.specs.Search.{Answer, found, none}
+use Rattle.search.specs.Search.{SearchResult, found, none}
 
 -- "compared field by field in this order": p is q, or smaller in the first field in which they differ.
 infix 40 _≤ₚ_
@@ -27,6 +27,6 @@ pub record Least (s : Selector) (bs : List Selector) (p : Packet) : Type 0 where
   pub least : (q : Packet) → Holds s q → (Claimed bs q → ⊥) → p ≤ₚ q
 
 -- An answer is right: a packet found is the least unclaimed one, and where none is found each packet of s is claimed.
-abbrev pub Right : Selector → List Selector → Answer → Type 0
+abbrev pub Right : Selector → List Selector → SearchResult → Type 0
 Right s bs (found p) = Least s bs p
 Right s bs none = (q : Packet) → Holds s q → Claimed bs q

@@ -5,9 +5,10 @@ use mathlib.Core.Bool.{_&&_}
 use mathlib.Core.List.{List, [], _∷_}
 use lib.Dec.{leb, ltb}
 use lib.ListN.{getD, drop}
-use Rattle.hex.specs.Digits.{pick}
+use Rattle.base.specs.Truths.{pick}
 use Rattle.policy.specs.Model.{Range, Selector, Packet, noRange}
 use Rattle.relations.specs.Ranges.{within}
+use Rattle.base.specs.Lists.{passing}
 
 -- A box's first field.
 abbrev pub first : Selector → Range
@@ -15,8 +16,7 @@ first b = getD b 0 noRange
 
 -- What the boxes that hold v in their first field ask of the further fields.
 abbrev pub narrow : ℕ → List Selector → List Selector
-narrow v [] = []
-narrow v (b ∷ bs) = pick (within (first b) v) (drop 1 b ∷ narrow v bs) (narrow v bs)
+narrow v bs = passing (λ b. within (first b) v) (drop 1) bs
 
 -- The lesser of m and the high h, where h is not below v.
 abbrev pub lesser : ℕ → ℕ → ℕ → ℕ
@@ -35,31 +35,31 @@ pub data Candidate : Type 0 where
 abbrev pub next : ℕ → ℕ → List Selector → Candidate
 next v high bs = pick (ltb (least v high bs) high) (value (least v high bs + 1)) last
 
-pub data Answer : Type 0 where
-  found : Packet → Answer
-  none : Answer
+pub data SearchResult : Type 0 where
+  found : Packet → SearchResult
+  none : SearchResult
 
 -- A packet found with v in this field, or else what comes later.
-abbrev pub or-later : ℕ → Answer → Answer → Answer
+abbrev pub or-later : ℕ → SearchResult → SearchResult → SearchResult
 or-later v (found p) later = found (v ∷ p)
 or-later v none later = later
 
 -- The further candidates, where there is one.
-abbrev pub onward : Candidate → (ℕ → Answer) → Answer
+abbrev pub onward : Candidate → (ℕ → SearchResult) → SearchResult
 onward (value w) k = k w
 onward last k = none
 
 -- The candidates from v on, at most n of them: what `rest` finds among the boxes that hold one, or the next.
-unfoldable pub tries : (List Selector → Answer) → ℕ → ℕ → ℕ → List Selector → Answer
+unfoldable pub tries : (List Selector → SearchResult) → ℕ → ℕ → ℕ → List Selector → SearchResult
 tries rest zero v high bs = none
 tries rest (suc n) v high bs = or-later v (rest (narrow v bs)) (onward (next v high bs) (λ w. tries rest n w high bs))
 
-unfoldable pub from : (List Selector → Answer) → ℕ → ℕ → List Selector → Answer
+unfoldable pub from : (List Selector → SearchResult) → ℕ → ℕ → List Selector → SearchResult
 from rest v high bs = tries rest (suc (high - v)) v high bs
 
 -- The first packet of the row's candidates that no box holds: in each field the row's low, or one past the high of a box that still
 -- holds the packet so far, ascending, each once.
-unfoldable pub search : Selector → List Selector → Answer
+unfoldable pub search : Selector → List Selector → SearchResult
 search [] [] = found []
 search [] (b ∷ bs) = none
 search (r ∷ rs) bs = from (λ cs. search rs cs) (r .low) (r .high) bs

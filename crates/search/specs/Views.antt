@@ -2,12 +2,12 @@
 -- Assumes nothing.
 use Prim.Native.Nat.{ℕ, _≤_, _<_}
 use mathlib.Core.Path.{_≡_}
-use mathlib.Core.Bool.{Bool, true, false}
 use mathlib.Core.List.{List, map}
 use lib.ListN.{getD, take, drop, length}
+use Rattle.policy.specs.Limits.{mostRows, mostSelectors}
 use Rattle.policy.specs.Model.{Selector}
 use Rattle.policy.specs.Views.{value as valueOf, packetOf, selectorIn}
-use Rattle.search.specs.Search.{Candidate, value, last, Answer, found, none}
+use Rattle.search.specs.Search.{Candidate, value, last, SearchResult, found, none}
 use Rattle.search.specs.declared.Boxes.{Boxes}
 use Rattle.search.specs.declared.Next.{Next}
 use Rattle.search.specs.declared.Next.the-variants.{Value, Last}
@@ -23,20 +23,21 @@ abbrev pub boxesAt : List ℕ → Boxes → ℕ → List Selector
 boxesAt bounds a f = map (boxAt bounds f) (take (a .count) (a .at))
 
 -- The numbers are selectors', and there is room for what is counted.
-pub record Listed (a : Boxes) : Type 0 where
-  pub long : length (a .at) ≡ 64
-  pub few : a .count ≤ 64
-  pub within : (k : ℕ) → k < a .count → getD (a .at) k 0 < 96
+pub record BoxNumbers (a : Boxes) : Type 0 where
+  pub long : length (a .at) ≡ mostRows
+  pub few : a .count ≤ mostRows
+  pub within : (k : ℕ) → k < a .count → getD (a .at) k 0 < mostSelectors
 
--- 1 for a test that holds, else 0.
-abbrev pub bit : Bool → ℕ
-bit true = 1
-bit false = 0
+-- They are these boxes, past their first f fields.
+pub record BoxesAre (bounds : List ℕ) (a : Boxes) (f : ℕ) (bs : List Selector) : Type 0 where
+  pub numbers : BoxNumbers a
+  pub same : boxesAt bounds a f ≡ bs
 
+-- What the answers of the code stand for.
 abbrev pub candidateOf : Next → Candidate
 candidateOf (Value n) = value (valueOf n)
 candidateOf Last = last
 
-abbrev pub answerOf : Found → Answer
-answerOf (Packet p) = found (packetOf p)
-answerOf Nothing = none
+abbrev pub resultOf : Found → SearchResult
+resultOf (Packet p) = found (packetOf p)
+resultOf Nothing = none

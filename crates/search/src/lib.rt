@@ -1,19 +1,21 @@
-// The least packet of a row that no box claims. The bounds of all selectors are lent; boxes are listed by their numbers.
+// The least packet of a row that no box claims. The bounds of all selectors are lent, and left unchanged; boxes are told by their numbers.
 ghost use mathlib.Core.Path.{_≡_};
 ghost use Prim.Native.Nat.{_+_, _<_};
-ghost use Rattle.policy.specs.Views.{value, rangeOf, selectorIn};
-ghost use Rattle.relations.specs.Ranges.{within};
+ghost use Rattle.policy.specs.Limits.{fieldCount, mostSelectors};
+ghost use Rattle.policy.specs.Views.{value, selectorIn};
 ghost use Rattle.search.specs.Search.{narrow, lesser as lesserOf, next as nextOf, search as searched};
-ghost use Rattle.search.specs.Views.{boxesAt, Listed, bit, candidateOf, answerOf};
+ghost use Rattle.search.specs.Views.{boxesAt, BoxNumbers, BoxesAre, candidateOf, resultOf};
+use base::bit;
+use policy::limits::ROWS;
 use policy::number::Number;
 use policy::selector::Packet;
-use policy::selector::Range;
 use policy::table;
 use policy::table::Bounds;
+use relations::range;
 
 // Boxes, by the numbers of their selectors.
 pub struct Boxes {
-    pub at: [u8; 64],
+    pub at: [u8; ROWS],
     pub count: usize,
 }
 
@@ -23,34 +25,24 @@ pub enum Next {
     Last,
 }
 
+// What the search finds: the least packet that no box has, or that each packet is in one.
 pub enum Found {
     Packet(Packet),
     Nothing,
 }
 
-// 1 if the range holds v, else 0.
-fn kept(r: Range, v: Number) -> usize
-    ensures { λ n. ⌜ n ≡ bit (within (rangeOf r) (value v)) ⌝ }
-{
-    if r.low.at_most(v) & v.at_most(r.high) {
-        1
-    } else {
-        0
-    }
-}
-
 // The ones of a whose field f holds v, in order.
 fn narrowed(bounds: &Bounds, a: Boxes, f: usize, v: Number) -> Boxes
-    requires { ⌜ (f < 5) × Listed a ⌝ }
-    ensures { λ r. ⌜ Listed r × (boxesAt (now (bounds .entry)) r (f + 1) ≡ narrow (value v) (boxesAt (now (bounds .entry)) a f)) ⌝ }
+    requires { ⌜ (f < fieldCount) × BoxNumbers a ⌝ }
+    ensures { λ r. ⌜ BoxesAre (now (bounds .entry)) r (f + 1) (narrow (value v) (boxesAt (now (bounds .entry)) a f)) ⌝ }
 {
-    let mut at = [0u8; 64];
+    let mut at = [0u8; ROWS];
     let mut n = 0;
     let mut k = 0;
     while k < a.count {
         let i = a.at[k];
         at[n] = i;
-        n += kept(table::range_at(bounds, i as usize, f), v);
+        n += bit(range::holds(table::range_at(bounds, i as usize, f), v));
         k += 1;
     }
     Boxes { at, count: n }
@@ -65,7 +57,7 @@ fn lesser(v: Number, h: Number, m: Number) -> Number
 
 // The candidate after v in field f: one past the least high of one of a, above v and at most high.
 fn following(bounds: &Bounds, a: Boxes, f: usize, v: Number, high: Number) -> Next
-    requires { ⌜ (f < 5) × Listed a ⌝ }
+    requires { ⌜ (f < fieldCount) × BoxNumbers a ⌝ }
     ensures { λ r. ⌜ candidateOf r ≡ nextOf (value v) (value high) (boxesAt (now (bounds .entry)) a f) ⌝ }
 {
     let mut m = high;
@@ -84,8 +76,8 @@ fn following(bounds: &Bounds, a: Boxes, f: usize, v: Number, high: Number) -> Ne
 // The least packet of the selector at `row` that no box of the cover has: candidates field by field, left by the label when the first
 // unclaimed packet is met.
 pub fn search(bounds: &Bounds, row: usize, cover: Boxes) -> Found
-    requires { ⌜ (row < 96) × Listed cover ⌝ }
-    ensures { λ r. ⌜ answerOf r ≡ searched (selectorIn (now (bounds .entry)) row) (boxesAt (now (bounds .entry)) cover 0) ⌝ }
+    requires { ⌜ (row < mostSelectors) × BoxNumbers cover ⌝ }
+    ensures { λ r. ⌜ resultOf r ≡ searched (selectorIn (now (bounds .entry)) row) (boxesAt (now (bounds .entry)) cover 0) ⌝ }
 {
     let r0 = table::range_at(bounds, row, 0);
     let r1 = table::range_at(bounds, row, 1);
@@ -116,49 +108,29 @@ pub fn search(bounds: &Bounds, row: usize, cover: Boxes) -> Found
                                 protocol: v4,
                             });
                         }
-                        match following(bounds, a4, 4, v4, r4.high) {
-                            Next::Value(w) => {
-                                v4 = w;
-                            }
-                            Next::Last => {
-                                break;
-                            }
-                        }
-                    }
-                    match following(bounds, a3, 3, v3, r3.high) {
-                        Next::Value(w) => {
-                            v3 = w;
-                        }
-                        Next::Last => {
+                        let Next::Value(w) = following(bounds, a4, 4, v4, r4.high) else {
                             break;
-                        }
+                        };
+                        v4 = w;
                     }
-                }
-                match following(bounds, a2, 2, v2, r2.high) {
-                    Next::Value(w) => {
-                        v2 = w;
-                    }
-                    Next::Last => {
+                    let Next::Value(w) = following(bounds, a3, 3, v3, r3.high) else {
                         break;
-                    }
+                    };
+                    v3 = w;
                 }
-            }
-            match following(bounds, a1, 1, v1, r1.high) {
-                Next::Value(w) => {
-                    v1 = w;
-                }
-                Next::Last => {
+                let Next::Value(w) = following(bounds, a2, 2, v2, r2.high) else {
                     break;
-                }
+                };
+                v2 = w;
             }
+            let Next::Value(w) = following(bounds, a1, 1, v1, r1.high) else {
+                break;
+            };
+            v1 = w;
         }
-        match following(bounds, cover, 0, v0, r0.high) {
-            Next::Value(w) => {
-                v0 = w;
-            }
-            Next::Last => {
-                break 'search Found::Nothing;
-            }
-        }
+        let Next::Value(w) = following(bounds, cover, 0, v0, r0.high) else {
+            break 'search Found::Nothing;
+        };
+        v0 = w;
     }
 }

@@ -3,5 +3,4 @@ pub mod Kept
 pub mod Tables
 pub mod Struck
 pub mod Texts
-pub mod Copying
 pub mod Bytes

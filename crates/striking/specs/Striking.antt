@@ -1,35 +1,25 @@
 -- Document 01, "Strike", of a table: the kept rows, the table that has only them, and demand 3 on it, over all groups and probes.
 -- Assumes nothing.
-use Prim.Native.Nat.{ℕ, zero, suc, _<_}
+use Prim.Native.Nat.{ℕ, _<_}
 use mathlib.Core.Path.{_≡_}
-use mathlib.Core.Bool.{true, false}
-use mathlib.Core.List.{List, [], _∷_, map}
+use mathlib.Core.Bool.{not}
+use mathlib.Core.List.{List, map}
 use lib.ListN.{length, getD}
-use Rattle.policy.specs.Model.{Packet, Row, Table, rowAt, parentOf}
+use Rattle.policy.specs.Model.{Packet, Row, Table, withRows, rowAt, parentOf}
 use Rattle.policy.specs.Wellformed.{IsEntity, Wellformed}
 use Rattle.relations.specs.Groups.{Dead, winnerFrom}
 use Rattle.relations.specs.declared.group.Outcome.{Outcome}
 use Rattle.relations.specs.declared.group.Outcome.the-variants.{Won, Nobody}
 use Rattle.kinds.specs.Tests.{dead}
+use Rattle.base.specs.Lists.{numbersFrom}
 
--- "kept are all rows but the dead": of n row numbers from k on, those of rows that are not dead, ascending.
-unfoldable pub keptFrom : Table → ℕ → ℕ → List ℕ
-keptFrom t zero k = []
-keptFrom t (suc n) k = elim (dead t k) [ true ↦ keptFrom t n (suc k) | false ↦ k ∷ keptFrom t n (suc k) ]
-
+-- "kept are all rows but the dead": their numbers, ascending.
 abbrev pub kept : Table → List ℕ
-kept t = keptFrom t (length (t .rows)) 0
+kept t = numbersFrom (λ i. not (dead t i)) (length (t .rows)) 0
 
 -- "the text without its dead rows' lines .. the rest is unchanged"
 abbrev pub struck : Table → Table
-struck t =
-    record {
-      entities = t .entities;
-      caps = t .caps;
-      floor = t .floor;
-      filters = t .filters;
-      rows = map (rowAt t) (kept t);
-    }
+struck t = withRows (map (rowAt t) (kept t)) t
 
 -- "Row k of the struck text is compared as the k-th kept row of the old text, both from 0": the winner of the old table, of whose rows
 -- ks are kept, and the winner of the struck one.

@@ -5,13 +5,17 @@ ghost use lib.ListN.{length};
 ghost use lib.Seq.{sets};
 ghost use Rattle.policy.specs.Views.{tableOf, Held};
 ghost use Rattle.policy.specs.Wellformed.{Wellformed};
-ghost use Rattle.reader.specs.States.{accepted, parse};
+ghost use Rattle.base.specs.Answers.{returned};
+ghost use Rattle.reader.specs.States.{parse};
 ghost use Rattle.striking.specs.Texts.{struckText};
 ghost use Rattle.striking.specs.Bytes.{DeadRows, keeps as keepsTest, nextPlace, keptBytes, Strikes};
+use base::bit;
+use policy::limits::ROWS;
+use policy::table;
 use policy::table::Table;
 
 // For each row, whether it is dead.
-pub type Flags = [bool; 64];
+pub type Flags = [bool; ROWS];
 
 // How many bytes were written, or that they need more room.
 pub enum Written {
@@ -19,11 +23,12 @@ pub enum Written {
     Short,
 }
 
+// The flags of the table's dead rows.
 fn dead_rows(t: Table) -> Flags
     requires { ⌜ Held t × Wellformed (tableOf t) ⌝ }
     ensures { λ r. ⌜ DeadRows (tableOf t) r ⌝ }
 {
-    let mut dead = [false; 64];
+    let mut dead = [false; ROWS];
     let mut i = 0;
     while i < t.rows {
         dead[i] = verdicts::is_dead(&t.parents, &t.heads, &t.bounds, i);
@@ -40,7 +45,7 @@ fn keeps(dead: &Flags, others: usize, n: usize) -> bool
         return true;
     }
     let k = n - others;
-    if 64 <= k {
+    if ROWS <= k {
         return true;
     }
     !dead[k]
@@ -51,7 +56,7 @@ fn next_place(n: usize, c: u8) -> usize
     requires { ⌜ n < 18446744073709551615 ⌝ }
     ensures { λ r. ⌜ r ≡ nextPlace n c ⌝ }
 {
-    if c == 10 { n + 1 } else { n }
+    if c == b'\n' { n + 1 } else { n }
 }
 
 // The length of the text without its dead rows' lines.
@@ -62,9 +67,7 @@ fn kept_length(text: &[u8], dead: &Flags, others: usize) -> usize
     let mut place = 0;
     let mut i = 0;
     while i < text.len() {
-        if keeps(dead, others, place) {
-            n += 1;
-        }
+        n += bit(keeps(dead, others, place));
         place = next_place(place, text[i]);
         i += 1;
     }
@@ -92,11 +95,11 @@ fn copy_kept(text: &[u8], dead: &Flags, others: usize, out: &mut [u8])
 
 // Writes the text, whose table is t, without its dead rows' lines to the start of out, if there is room for it. The rest of out is unchanged.
 pub fn strike(text: &[u8], t: Table, out: &mut [u8]) -> Written
-    requires { ⌜ Held t × (parse (now text) ≡ accepted (tableOf t)) ⌝ }
+    requires { ⌜ Held t × (parse (now text) ≡ returned (tableOf t)) ⌝ }
     ensures { λ r. ⌜ Strikes (struckText (now (text .entry)) (tableOf t)) (now (out .entry)) (now (out .exit)) r ⌝ }
 {
     let dead = dead_rows(t);
-    let others = t.entities + t.capped + 1 + t.filters;
+    let others = table::lines_before(t.entities, t.capped, 1, t.filters);
     let n = kept_length(text, &dead, others);
     if out.len() < n {
         return Written::Short;

@@ -1,6 +1,6 @@
 // What the benchmark calls: a text and a row's number in, a number out.
 ghost use mathlib.Core.Path.{_≡_};
-ghost use Rattle.analyser.specs.Calls.{checkOf, witnessOf, packed, strikeOf};
+ghost use Rattle.analyser.specs.Calls.{checkOf, witnessOf, packed, strikeOf, strikeWritten};
 ghost use Rattle.timed.specs.Codes.{checkCode, witnessCode};
 use analyser::Checked;
 use analyser::Struck;
@@ -33,13 +33,14 @@ pub extern "C" fn timed_witness(text: &[u8], k: usize) -> u64
     }
 }
 
-// The length of the struck text, or 65,536 times the refusal's number plus its line.
+// The length of the struck text, or the refusal as one number. Writes what Strike writes.
 #[no_mangle]
 pub extern "C" fn timed_strike(text: &[u8], out: &mut [u8]) -> u64
-    ensures { λ n. ⌜ n ≡ packed (strikeOf (now (text .entry)) (now (out .entry))) ⌝ }
+    ensures answers { λ n. ⌜ n ≡ packed (strikeOf (now (text .entry)) (now (out .entry))) ⌝ }
+    ensures writes { λ _. ⌜ now (out .exit) ≡ strikeWritten (now (text .entry)) (now (out .entry)) ⌝ }
 {
     match analyser::strike(text, out) {
         Struck::Length(n) => n as u64,
-        Struck::Refused { number, line } => 65536 * number as u64 + line as u64,
+        Struck::Refused { number, line } => analyser::packed_refusal(number, line),
     }
 }

@@ -1,17 +1,16 @@
 -- Document 01, "Witness, of a row: either dead, or the least packet": the boxes that cover a row, and the verdict on it.
 -- Assumes nothing.
-use Prim.Native.Nat.{ℕ}
+use Prim.Native.Nat.{ℕ, _<_}
 use mathlib.Core.Bool.{Bool, true, false, _&&_}
-use mathlib.Core.List.{List, [], _∷_}
+use mathlib.Core.List.{List}
 use lib.ListN.{take}
-use Rattle.hex.specs.Digits.{pick}
 use Rattle.policy.specs.Model.{Selector, Row, Table, rowAt, parentOf}
-use Rattle.policy.specs.Views.{packetOf}
-use Rattle.relations.specs.Entities.{atOrAbove}
+use Rattle.policy.specs.Limits.{mostRows}
+use Rattle.policy.specs.Views.{parentIn, rowIn, rowsIn}
+use Rattle.relations.specs.Entities.{TwoEntities, atOrAbove}
 use Rattle.relations.specs.Groups.{sameGroup}
-use Rattle.search.specs.Search.{Answer, found, none, search}
-use Rattle.verdicts.specs.declared.Verdict.{Verdict}
-use Rattle.verdicts.specs.declared.Verdict.the-variants.{Dead, Packet}
+use Rattle.base.specs.Lists.{passing}
+use Rattle.search.specs.Search.{SearchResult, found, none, search}
 
 -- The row q is of r's group, and ⪰ it in source and destination.
 unfoldable pub covers : (ℕ → ℕ) → Row → Row → Bool
@@ -20,22 +19,32 @@ covers up r q =
 
 -- The cover of r: the selectors of the rows before it that are of its group and ⪰ it in source and destination.
 unfoldable pub coverOf : (ℕ → ℕ) → Row → List Row → List Selector
-coverOf up r [] = []
-coverOf up r (q ∷ before) = pick (covers up r q) (q .selector ∷ coverOf up r before) (coverOf up r before)
+coverOf up r before = passing (covers up r) (λ q. q .selector) before
 
 -- The least packet of r that its cover leaves, after the rows before it.
-unfoldable pub verdictAfter : (ℕ → ℕ) → List Row → Row → Answer
+unfoldable pub verdictAfter : (ℕ → ℕ) → List Row → Row → SearchResult
 verdictAfter up before r = search (r .selector) (coverOf up r before)
 
 -- The verdict on row i of a table.
-abbrev pub verdictOn : Table → ℕ → Answer
+abbrev pub verdictOn : Table → ℕ → SearchResult
 verdictOn t i = verdictAfter (parentOf t) (take i (t .rows)) (rowAt t i)
 
-abbrev pub answerOf : Verdict → Answer
-answerOf (Packet p) = found (packetOf p)
-answerOf Dead = none
-
 -- The verdict is dead.
-abbrev pub isNone : Answer → Bool
+abbrev pub isNone : SearchResult → Bool
 isNone none = true
 isNone (found p) = false
+
+-- ---- the runs that a table lends
+
+-- What is asked of them, and of a row's number.
+pub record Asked (parents heads bounds : List ℕ) (i : ℕ) : Type 0 where
+  pub row : i < mostRows
+  pub ends : TwoEntities parents (rowIn heads bounds i .source) (rowIn heads bounds i .destination)
+
+-- The cover of row i.
+abbrev pub coverIn : List ℕ → List ℕ → List ℕ → ℕ → List Selector
+coverIn parents heads bounds i = coverOf (parentIn parents) (rowIn heads bounds i) (rowsIn heads bounds i)
+
+-- The verdict on row i.
+abbrev pub verdictIn : List ℕ → List ℕ → List ℕ → ℕ → SearchResult
+verdictIn parents heads bounds i = verdictAfter (parentIn parents) (rowsIn heads bounds i) (rowIn heads bounds i)

@@ -1,71 +1,65 @@
 -- Every item of document 01 that is marked ◆ holds: the answers on texts by computing them, the relations by their tests.
 -- Assumes nothing.
-use Prim.Native.Nat.{ℕ, _≤_, _<_}
-use mathlib.Core.Path.{_≡_, refl, sym, ap, _∙_}
+use Prim.Native.Nat.{ℕ}
+use mathlib.Core.Path.{_≡_, refl, ap, _∙_}
 use mathlib.Core.List.{List, _++_}
 use native.Mathlib.Omega.{arith}
 use lib.ListN.{length, drop, drop-of-length-le}
-use Rattle.hex.proofs.Laws.Outputs.{fits-not, written-not, fits-all, written-all}
 use Rattle.hex.specs.Digits.{digitValue, digitOf}
 use Rattle.hex.specs.Lines.{isLine}
-use Rattle.relations.specs.Lists.{among, same}
+use Rattle.base.specs.Lists.{among, same}
 use Rattle.relations.specs.Entities.{upward, ancestors, atOrAbove}
+use Rattle.relations.specs.Relations.{AllOf}
 use Rattle.relations.specs.Groups.{sameGroup}
 use Rattle.relations.specs.Selectors.{inhabited}
-use Rattle.relations.proofs.Laws.Examples.{edges}
-use Rattle.frames.specs.Checks.{refusal}
-use Rattle.frames.specs.Values.{rangeFrom}
-use Rattle.frames.specs.Rules.{entityRule, isEntity, isRoot, allRoots, allZero, rowNumbers, nullRule}
+use Rattle.relations.proofs.Laws.Examples.{edges-hold}
+use Rattle.base.specs.Checks.{refusal}
+use Rattle.frames.specs.Parts.{rangeFrom}
+use Rattle.frames.specs.Numbers.{isEntity, isRoot, allRoots}
+use Rattle.frames.specs.Entities.{entityRule}
+use Rattle.frames.specs.Rows.{allZero, rowNumbers, nullRule}
 use Rattle.reader.specs.Lines.{linesFrom, restFrom}
 use Rattle.reader.specs.Frames.{frameOfKind, frameOf}
-use Rattle.reader.specs.States.{checks, grown, takeFrame, step, run, Parsed, accepted, finish, parse}
+use Rattle.base.specs.Answers.{returned, refusedBy}
+use Rattle.reader.specs.States.{checks, grown, takeFrame, step, run, finish, parse}
 use Rattle.search.specs.Search.{tries, from, search}
 use Rattle.verdicts.specs.Verdicts.{covers, coverOf, verdictAfter}
 use Rattle.kinds.specs.Entries.{entries}
 use Rattle.kinds.specs.Examples.{tableT}
 use Rattle.kinds.proofs.Laws.Examples.{printed}
 use Rattle.listing.specs.Bytes.{bytes}
-use Rattle.analyser.specs.Calls.{checkOf, witnessOf, Returned, returned, refusedBy, answerIn, outputIn, listOf, listWritten}
-use Rattle.analyser.specs.Examples.{T, listed, AllOf, items}
+use Rattle.analyser.specs.Calls.{checkOf, witnessOf, listOf, listWritten}
+use Rattle.analyser.specs.Examples.{T, listOfT, items}
+use Rattle.analyser.proofs.Laws.Outputs.{call-short, call-whole}
 
 -- ---- List in 18 and in 17 bytes
 
-T-parsed : parse T ≡ accepted tableT
+T-parsed : parse T ≡ returned tableT
 unfolding rangeFrom parse finish run step takeFrame checks grown frameOf frameOfKind linesFrom restFrom refusal entityRule isEntity isRoot allRoots allZero rowNumbers nullRule among inhabited isLine digitValue digitOf
 T-parsed = refl
 
 -- T's entries as bytes
-T-bytes : bytes (entries tableT) ≡ listed
+T-bytes : bytes (entries tableT) ≡ listOfT
 unfolding bytes
 T-bytes = ap bytes printed
 
-abbrev answer : List ℕ → Parsed → Returned
-answer = answerIn (λ t. bytes (entries t)) (λ t. length (entries t))
-
-abbrev output : List ℕ → Parsed → List ℕ
-output = outputIn (λ t. bytes (entries t))
-
-fits-18 : (out : List ℕ) → length out ≡ 18 → (listOf T out ≡ returned 6) × (listWritten T out ≡ listed)
+fits-18 : (out : List ℕ) → length out ≡ 18 → (listOf T out ≡ returned 6) × (listWritten T out ≡ listOfT)
 unfolding listOf listWritten
 fits-18 out h =
     let e = ap length T-bytes in
-    let l : length (bytes (entries tableT)) ≤ length out = omega arith in (
-      ap (answer out) T-parsed ∙ rw (fits-all (bytes (entries tableT)) out l, printed) refl,
-      ap (output out) T-parsed
-          ∙ sym (written-all (bytes (entries tableT)) out l)
+    let w = call-whole bytes length entries out (parse T) tableT T-parsed (omega arith) in (
+      w .0 ∙ ap (λ es. returned (length es)) printed,
+      w .1
           ∙ ap (λ (b : List ℕ). b ++ drop (length b) out) T-bytes
-          ∙ ap (λ (r : List ℕ). listed ++ r) (drop-of-length-le out {i = 18} (omega arith)),
+          ∙ ap (λ (r : List ℕ). listOfT ++ r) (drop-of-length-le out {i = 18} (omega arith)),
     )
 
 short-17 : (out : List ℕ) → length out ≡ 17 → (listOf T out ≡ refusedBy 8 0) × (listWritten T out ≡ out)
 unfolding listOf listWritten
-short-17 out h =
-    let e = ap length T-bytes in
-    let l : length out < length (bytes (entries tableT)) = omega arith in
-    (ap (answer out) T-parsed ∙ rw (fits-not (bytes (entries tableT)) out l) refl, ap (output out) T-parsed ∙ sym (written-not (bytes (entries tableT)) out l))
+short-17 out h = let e = ap length T-bytes in call-short bytes length entries out (parse T) tableT T-parsed (omega arith)
 
 -- ---- all of them
 
 pub items-hold : AllOf items
 unfolding witnessOf verdictAfter coverOf covers search from tries sameGroup same atOrAbove ancestors upward rangeFrom checkOf parse finish run step takeFrame checks grown frameOf frameOfKind linesFrom restFrom refusal entityRule isEntity isRoot allRoots allZero rowNumbers nullRule among inhabited isLine digitValue digitOf
-items-hold = (refl, (refl, (refl, (fits-18, (short-17, (refl, (refl, (refl, (refl, (refl, (refl, (edges .meeting, (edges .apart, (edges .first, (edges .second, tt)))))))))))))))
+items-hold = (refl, (refl, (refl, (fits-18, (short-17, (refl, (refl, (refl, (refl, (refl, (refl, edges-hold)))))))))))

@@ -1,7 +1,6 @@
 -- Demands 1 to 3 hold of the calls, for every text.
 -- Assumes nothing.
 use Prim.Native.Nat.{ℕ, _<_}
-use native.Mathlib.Decide.{decLt}
 use native.Mathlib.Omega.{arith}
 use borrow.Author.Tests.{le-ltb}
 use mathlib.Core.Path.{_≡_, refl, sym, ap, _∙_}
@@ -16,10 +15,12 @@ use Rattle.relations.proofs.Laws.Technologies.{dominates-decides, technologyRel
 use Rattle.relations.proofs.Laws.Coefficients.{atLeast-decides}
 use Rattle.relations.proofs.Laws.Selectors.{holds-decides, contains-decides, overlaps-decides}
 use Rattle.relations.proofs.Laws.Groups.{sameGroup-decides, matches-decides, winner-group, winner-wins, winner-nobody, winner-named}
-use Rattle.reader.specs.States.{accepted, refusedAt, parse}
+use Rattle.base.specs.Answers.{returned, refusedBy}
+use Rattle.base.proofs.Laws.Decides.{decided, decides-and, decides-ltb}
+use Rattle.reader.specs.States.{parse}
 use Rattle.reader.proofs.Laws.Wellformed.{accepted-wellformed, refused-line}
 use Rattle.reader.proofs.Laws.Rules.{accepted-exactly, refused-otherwise}
-use Rattle.search.specs.Search.{Answer, found, none}
+use Rattle.search.specs.Search.{SearchResult, found, none}
 use Rattle.search.specs.Least.{_≤ₚ_}
 use Rattle.verdicts.specs.Verdicts.{verdictOn}
 use Rattle.verdicts.proofs.Laws.Verdicts.{verdicts}
@@ -34,51 +35,40 @@ use Rattle.striking.specs.Texts.{struckText}
 use Rattle.striking.proofs.Laws.Struck.{struck-keeps}
 use Rattle.striking.proofs.Laws.Texts.{struck-parses}
 use Rattle.striking.proofs.Laws.Bytes.{struck-shorter}
-use Rattle.analyser.specs.Calls.{checkedOf, checkOf, lineIn, lineOf, packet, verdictAnswer, witnessIn, witnessOf, listOf, listWritten, strikeOf, strikeWritten, outcomeAnswer}
+use Rattle.analyser.specs.Calls.{checkOf, linePart, givesPacket, witnessOf, outcomeOf, winnerOf, listOf, listWritten, strikeOf, strikeWritten}
 use Rattle.analyser.specs.Promises.{Reading, RefusedText, AcceptedText, Relations, ListPromise, WitnessPromise, StrikePromise, WinnerPromise, PackedPromise}
-use Rattle.analyser.proofs.Laws.Calls.{line-row, witness-verdict, verdict-dead}
-use Rattle.analyser.proofs.Laws.Outputs.{returned-fits, refused-why, call-refused, call-short, call-whole}
-use Rattle.analyser.proofs.Laws.Winners.{winner-refused, winner-no-row, winner-no-source, winner-no-destination, winner-found, winner-row, winner-none}
+use Rattle.analyser.proofs.Laws.Calls.{line-row, witness-verdict, winner-no-row, winner-no-entity, winner-found, winner-row, winner-none}
+use Rattle.analyser.proofs.Laws.Outputs.{no-room, call-short, call-whole, list-told, list-refused}
 
 -- ---- demand 1
 
 pub reads : Reading
 reads = record { accepts = accepted-exactly; refuses = refused-otherwise }
 
-pub refused-text : (text : List ℕ) (number line : ℕ) → parse text ≡ refusedAt number line → RefusedText text number line
-unfolding checkOf lineOf witnessOf listOf listWritten strikeOf strikeWritten
+pub refused-text : (text : List ℕ) (number line : ℕ) → parse text ≡ refusedBy number line → RefusedText text number line
+unfolding checkOf linePart witnessOf winnerOf listOf listWritten strikeOf strikeWritten
 refused-text text number line e =
     let small = refused-line text number line e in
     record {
-      check = ap checkedOf e;
-      line = λ k. ap (lineIn text k) e;
-      witness = λ k. ap (witnessIn k) e;
-      list = λ out. call-refused (λ t. bytes (entries t)) (λ t. length (entries t)) (parse text) out number line e;
-      strike = λ out. call-refused (struckText text) (λ t. length (struckText text t)) (parse text) out number line e;
-      winner = λ k a b p. sym (winner-refused text k a b p number line e);
+      every = λ conditions value. rw e;
+      check = rw e;
+      line = λ k. rw e;
+      witness = λ k. rw e;
+      list = λ out. rw e (refl, refl);
+      strike = λ out. rw e (refl, refl);
+      winner = λ k a b p. rw e;
       numbers = (small .1 .0, small .1 .1, small .0);
     }
 
-pub accepted-text : (text : List ℕ) (t : Table) → parse text ≡ accepted t → AcceptedText text t
-unfolding checkOf lineOf witnessOf listOf listWritten strikeOf strikeWritten
+pub accepted-text : (text : List ℕ) (t : Table) → parse text ≡ returned t → AcceptedText text t
+unfolding checkOf linePart witnessOf listOf listWritten strikeOf strikeWritten
 accepted-text text t e = record {
-  check = ap checkedOf e;
+  check = rw e;
   line = λ k h. line-row text t e k h .frame;
-  no-row = λ k h. (
-    ap (lineIn text k) e ∙ rw (le-ltb _ _ h),
-    ap (witnessIn k) e ∙ rw (le-ltb _ _ h),
-    λ a b p. sym (winner-no-row text k a b p t e h),
-  );
-  no-entity = λ k a b p h n. elim (decLt a (length (t .entities))) [
-    | yes l ↦ elim (decLt b (length (t .entities))) [
-      | yes m ↦ absurd (n (l, m))
-      | no m ↦ sym (winner-no-destination text k a b p t e h l (omega arith))
-    ]
-    | no l ↦ sym (winner-no-source text k a b p t e h (omega arith))
-  ];
-  short-list = λ out h.
-      call-short (λ u. bytes (entries u)) (λ u. length (entries u)) (parse text) out t e (omega (arith, length-bytes (entries t)));
-  short-strike = λ out h. call-short (struckText text) (λ u. length (struckText text u)) (parse text) out t e h;
+  no-row = λ k h. (rw e (rw (le-ltb _ _ h)), rw e (rw (le-ltb _ _ h)), λ a b p. winner-no-row text t e k a b p h);
+  no-entity = λ k a b p h n. winner-no-entity text t e k a b p h n;
+  short-list = λ out h. call-short bytes length entries out (parse text) t e (omega (arith, length-bytes (entries t)));
+  short-strike = λ out h. call-short (λ l. l) length (struckText text) out (parse text) t e h;
 }
 
 -- ---- demand 2
@@ -98,14 +88,14 @@ relations =
       matching = matches-decides;
     }
 
-pub list-promise : (text : List ℕ) (t : Table) → parse text ≡ accepted t → ListPromise text t
+pub list-promise : (text : List ℕ) (t : Table) → parse text ≡ returned t → ListPromise text t
 unfolding listOf listWritten
 list-promise text t e =
     let well = accepted-wellformed text t e in
     let long = length-bytes (entries t) in
     record {
       written = λ out h.
-          let w = call-whole (λ u. bytes (entries u)) (λ u. length (entries u)) (parse text) out t e (omega arith) in
+          let w = call-whole bytes length entries out (parse text) t e (omega arith) in
           (w .0, w .1 ∙ ap (λ (n : ℕ). bytes (entries t) ++ drop n out) long);
       exact = entries-exact t well;
       ascending = entries-ascend t well;
@@ -114,80 +104,68 @@ list-promise text t e =
 
 -- ---- demand 3
 
-pub witness-promise : (text : List ℕ) (t : Table) → parse text ≡ accepted t → WitnessPromise text t
+pub witness-promise : (text : List ℕ) (t : Table) → parse text ≡ returned t → WitnessPromise text t
 witness-promise text t e = record {
   listed = λ i h. let x = entries-exact t well i 20 noSecond in (λ m. x .0 m .1 .1, λ d. x .1 (h, (refl, d)));
   witnessed = λ i h.
       let v = verdicts t well i h .dead in
       let w = witness-verdict text t e i h in
-      (λ d. v .0 (verdict-dead (verdictOn t i) (sym w ∙ d)), λ d. w ∙ ap verdictAnswer (v .1 d));
+      (λ d. v .0 (cc), λ d. w ∙ ap returned (v .1 d));
   others = λ i h n. other i h n (verdictOn t i) refl;
 }
   where
     well : Wellformed t
     well = accepted-wellformed text t e
 
-    other : (i : ℕ) → i < length (t .rows) → (Dead t i → ⊥) → (o : Answer) → verdictOn t i ≡ o
+    other : (i : ℕ) → i < length (t .rows) → (Dead t i → ⊥) → (o : SearchResult) → verdictOn t i ≡ o
         → (p : Packet)
-        × (witnessOf text i ≡ packet p)
+        × (witnessOf text i ≡ givesPacket p)
         × Wins t i (rowAt t i .source) (rowAt t i .destination) p
         × ((a b : ℕ) (q : Packet) → Wins t i a b q → p ≤ₚ q)
     other i h n none o = absurd (n (verdicts t well i h .dead .0 o))
     other i h n (found p) o =
         let v = verdicts t well i h in
-        (p, witness-verdict text t e i h ∙ ap verdictAnswer o, v .wins p o, v .least p o)
+        (p, witness-verdict text t e i h ∙ ap returned o, v .wins p o, v .least p o)
 
-pub strike-promise : (text : List ℕ) (t : Table) → parse text ≡ accepted t → StrikePromise text t
+pub strike-promise : (text : List ℕ) (t : Table) → parse text ≡ returned t → StrikePromise text t
 unfolding strikeOf strikeWritten
 strike-promise text t e =
     let kept = struck-keeps t (accepted-wellformed text t e) in
     record {
-      written = λ out h. call-whole (struckText text) (λ u. length (struckText text u)) (parse text) out t e h;
+      written = λ out h. call-whole (λ l. l) length (struckText text) out (parse text) t e h;
       shorter = struck-shorter text t e;
       taken = struck-parses text t e;
       alive = kept .alive;
       winners = kept .winners;
     }
 
-pub winner-promise : (text : List ℕ) (t : Table) → parse text ≡ accepted t → WinnerPromise text t
+pub winner-promise : (text : List ℕ) (t : Table) → parse text ≡ returned t → WinnerPromise text t
 winner-promise text t e = record {
-  won = λ g a b p h x y i.
-      let s = winner-row text g a b p t e h x y i in
-      let z = winner-group t g a b p in
-      (λ w. sym z ∙ s .0 w, λ o. s .1 (z ∙ o));
-  none = λ g a b p h x y.
-      let s = winner-none text g a b p t e h x y in
-      let z = winner-group t g a b p in
-      (λ w. sym z ∙ s .0 w, λ o. s .1 (z ∙ o));
+  returns = λ g a b p h x y. winner-found text t e g a b p h x y ∙ ap (λ o. returned (outcomeOf o)) (winner-group t g a b p);
   first = λ g a b p h x y i.
-      let s = winner-row text g a b p t e h x y i in
+      let s = winner-row text t e g a b p h x y i in
       let v = winner-wins t g a b p i in
       (λ w. v .0 (s .0 w), λ o. s .1 (v .1 o));
   unmatched = λ g a b p h x y.
-      let s = winner-none text g a b p t e h x y in
+      let s = winner-none text t e g a b p h x y in
       let v = winner-nobody t g a b p in
       (λ w. v .0 (s .0 w), λ o. s .1 (v .1 o));
-  named = λ g h a b p j k s. elim (decLt a (length (t .entities))) [
-    | yes x ↦ elim (decLt b (length (t .entities))) [
-      | yes y ↦ sym (winner-found text g a b p t e j x y)
-          ∙ ap outcomeAnswer (winner-named t g h a b p s)
-          ∙ winner-found text h a b p t e k x y
-      | no y ↦ sym (winner-no-destination text g a b p t e j x (omega arith)) ∙ winner-no-destination text h a b p t e k x (omega arith)
-    ]
-    | no x ↦ sym (winner-no-source text g a b p t e j (omega arith)) ∙ winner-no-source text h a b p t e k (omega arith)
+  named = λ g h a b p j k s. elim (decided _ (decides-and _ _ (decides-ltb a (length (t .entities))) (decides-ltb b (length (t .entities))))) [
+    | inl x ↦ winner-found text t e g a b p j (x .0) (x .1)
+        ∙ ap (λ o. returned (outcomeOf o)) (winner-named t g h a b p s)
+        ∙ sym (winner-found text t e h a b p k (x .0) (x .1))
+    | inr x ↦ winner-no-entity text t e g a b p j x ∙ sym (winner-no-entity text t e h a b p k x)
   ];
 }
 
 -- ---- List for C
 
 pub packed-promise : (text out : List ℕ) → PackedPromise text out
-unfolding listOf
 packed-promise text out = record {
-  count = λ n e.
-      returned-fits (λ t. bytes (entries t)) (λ t. length (entries t)) out (parse text) (λ k. k < 65536) n (sym e)
-      (λ t a l. omega (arith, entries-few t (accepted-wellformed text t a)));
-  refusals = λ number line e. elim (refused-why (λ t. bytes (entries t)) (λ t. length (entries t)) out (parse text) number line e) [
+  count = λ n e. let w = list-told text out n e in
+      omega (arith, w .tells, entries-few (w .of) (accepted-wellformed text (w .of) (w .read)));
+  refusals = λ number line e. elim (list-refused text out number line e) [
     | inl a ↦ omega (arith, refused-line text number line a)
-    | inr h ↦ omega (arith, h)
+    | inr h ↦ omega (arith, no-room (bytes (entries (h .0))) out number (h .2), h .3)
   ];
 }

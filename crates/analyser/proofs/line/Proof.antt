@@ -1,48 +1,48 @@
 -- `line` meets its contract: the reader's counts give the place of the row's line. Assumes nothing.
 use borrow.Author.Needs.{needs}
-use borrow.Author.Tests.{eq-eqb, ne-eqb, lt-ltb, le-ltb}
-use Rattle.reader.proofs.Laws.Readers.{table-counted}
-use Rattle.analyser.specs.Calls.{lineOf}
+use borrow.Author.Tests.{lt-ltb, le-ltb}
+use native.Mathlib.Omega.{arith}
+use denote.Ref.{now}
+use Rattle.reader.proofs.Laws.Readers.{table-sized}
+use Rattle.analyser.specs.Calls.{linePart}
+use Rattle.analyser.proofs.Laws.Texts.{Accepted, text-refused, accepted}
 use Rattle.analyser.proofs.line.Statement.{statement}
 use Rattle.analyser.proofs.line.Tie as tie
 
 refused : tie.Need-returns
-unfolding lineOf
-refused c =
-    let i = c .before in
-    rw (← i .before .before .read .ensures .same) (rw (ne-eqb _ _ (i .if1 .taken)))
+unfolding linePart
+refused c = let i = c .before in rw (text-refused (i .before .before .read .ensures) (i .if1 .taken))
+
+taken : (c : tie.Else1) → Accepted (now (c .before .before .before .before .args .text)) (c .before .before .read .result)
+taken c = let r = c .before .before .read in accepted _ (table-sized (r .result) (r .ok)) (r .ensures) (c .if1 .left)
 
 no-row : tie.Need-returns-2
-unfolding lineOf
+unfolding linePart
 no-row c =
     let j = c .before in
-    let i = j .before .before in
-    let r = i .before .before .read in
-    let n = table-counted (r .result) (r .ok) (r .ensures .ready) in
-    rw (← r .ensures .same) (rw (eq-eqb _ _ (i .if1 .left)) (rw (n .rows, le-ltb _ _ (j .if2 .taken))))
+    let a = taken (j .before .before) in
+    rw (a .read) (rw (a .counted .rows, le-ltb _ _ (j .if2 .taken)))
+
+few : tie.Need-lines-before-requires
+few c κs = let h = taken (c .before .before) .held in (h .entities, h .capped, h .filters)
+
+fits : tie.Need-add-nth-line
+fits c =
+    let j = c .before in
+    let h = taken (j .before .before) .held in
+    omega (arith, c .lines-before .ensures, j .if2 .left, h .entities, h .capped, h .filters, h .rows)
 
 there : tie.Need-returns-3
-unfolding lineOf
+unfolding linePart
 there c =
-    let j = c .before .before .before in
-    let i = j .before .before in
-    let r = i .before .before .read in
-    let n = table-counted (r .result) (r .ok) (r .ensures .ready) in
-    rw (← r .ensures .same)
-    (rw (eq-eqb _ _ (i .if1 .left)) (rw (n .rows, n .entities, n .caps, n .filters, lt-ltb _ _ (j .if2 .left)) (c .nth-line .ensures)))
+    let b = c .before in
+    let j = b .before in
+    let a = taken (j .before .before) in
+    rw (a .read)
+    (rw (a .counted .rows, a .counted .entities, a .counted .caps, a .counted .filters, lt-ltb _ _ (j .if2 .left), ← b .lines-before .ensures)
+    (c .nth-line .ensures))
 
 pub line-spec : {M : Type 1} → statement M
 line-spec =
     tie.close
-    (tie.spec
-    (λ c κs. search needs)
-    (λ c. search needs)
-    refused
-    (λ c. search needs)
-    no-row
-    (λ c. search needs)
-    (λ c. search needs)
-    (λ c. search needs)
-    (λ c. search needs)
-    (λ c κs. search needs)
-    there)
+    (tie.spec (λ c κs. search needs) (λ c. search needs) refused (λ c. search needs) no-row few fits (λ c κs. search needs) there)

@@ -1,72 +1,39 @@
 -- `strike` meets its contract: an accepted text is struck. Assumes nothing.
 use borrow.Author.Needs.{needs}
-use borrow.Author.Tests.{eq-eqb, ne-eqb}
 use Prim.Native.Nat.{ℕ}
 use mathlib.Core.Path.{_≡_, refl, sym, ap, _∙_}
-use mathlib.Core.List.{List}
 use denote.Ref.{now}
 use lib.ListN.{length}
-use Rattle.policy.specs.Model.{Table}
-use Rattle.policy.specs.Views.{tableOf}
-use Rattle.reader.specs.States.{accepted, parse}
+use Rattle.base.specs.Answers.{Answer, returned, refusedBy}
+use Rattle.frames.specs.Refusals.{shortOutput}
+use Rattle.reader.proofs.Laws.Readers.{table-sized}
 use Rattle.striking.specs.Texts.{struckText}
 use Rattle.striking.specs.declared.Written.{Written}
 use Rattle.striking.specs.declared.Written.the-variants.{Length, Short}
-use Rattle.analyser.specs.Calls.{Returned, returned, refusedBy, strikeOf, strikeWritten}
-use Rattle.analyser.proofs.Laws.Outputs.{Does, does-refused, does-accepted}
+use Rattle.analyser.specs.Calls.{strikeOf, strikeWritten}
+use Rattle.analyser.proofs.Laws.Outputs.{call-accepted}
+use Rattle.analyser.proofs.Laws.Texts.{Accepted, text-refused, accepted}
 use Rattle.analyser.proofs.strike.Statement.{statement}
 use Rattle.analyser.proofs.strike.Tie as tie
 
 -- The length, or that the output is too short.
-abbrev answered : Written → Returned
+abbrev answered : Written → Answer ℕ
 answered (Length n) = returned n
-answered Short = refusedBy 8 0
+answered Short = refusedBy shortOutput 0
 
--- the text is refused
 refused : tie.Need-returns
 unfolding strikeOf strikeWritten
-refused c =
-    let r = c .before .before in
-    let a = r .before .before .before .args in
-    let l = does-refused (struckText (now (a .text))) (λ t. length (struckText (now (a .text)) t)) (parse (now (a .text))) (now (a .out)) (r .read .result .number) (r .read .result .line) (sym (r .read .ensures .same) ∙ rw (ne-eqb _ _ (c .if1 .taken)) refl) in
-    (l .answer, l .output)
+refused c = rw (text-refused (c .before .before .read .ensures) (c .if1 .taken)) (refl, refl)
 
--- or it is accepted
-module _ (c : tie.Else1) where
-  abbrev r : tie.After-read
-  r = c .before .before
+-- the text is accepted
+taken : (c : tie.Else1) → Accepted (now (c .before .before .before .before .before .args .text)) (c .before .before .read .result)
+taken c = let r = c .before .before .read in accepted _ (table-sized (r .result) (r .ok)) (r .ensures) (c .if1 .left)
 
-  abbrev s : tie.Start
-  s = r .before .before .before
-
-  text-accepted : parse (now (s .args .text)) ≡ accepted (tableOf (r .read .result .table))
-  text-accepted = sym (r .read .ensures .same) ∙ rw (eq-eqb _ _ (c .if1 .left)) refl
-
-  abbrev result : Table → List ℕ
-  result = struckText (now (s .args .text))
-
-  abbrev value : Table → ℕ
-  value t = length (result t)
-
-written : (c : tie.After-strike)
-    → Does (result (c .before .before)) (value (c .before .before)) (parse (now (s (c .before .before) .args .text))) (now (s (c .before .before) .args .out)) (c .strike .last .1 .1 .0) (answered (c .strike .result))
-written c =
-    let e = c .before .before in
-    let t = tableOf (r e .read .result .table) in
-    does-accepted (result e) (value e) (parse (now (s e .args .text))) (now (s e .args .out)) t (text-accepted e) (c .strike .last .1 .1 .0)
-    answered (Length (value e t)) Short (c .strike .result) refl refl (c .strike .ensures .answer) (c .strike .ensures .output)
-
-whole : tie.Need-returns-2
+done : (c : tie.After-strike) → let s = c .before .before .before .before .before .before .before .args in
+    (answered (c .strike .result) ≡ strikeOf (now (s .text)) (now (s .out))) × (c .strike .last .1 .1 .0 ≡ strikeWritten (now (s .text)) (now (s .out)))
 unfolding strikeOf strikeWritten
-whole c =
-    let l = written (c .before .before .before .before .before) in
-    (sym (ap answered (c .before .n .given .1)) ∙ l .answer, l .output)
-
-short : tie.Need-returns-3
-unfolding strikeOf strikeWritten
-short c =
-    let l = written (c .before .before .before .before) in
-    (sym (ap answered (c .enum-told .given .1)) ∙ l .answer, l .output)
+done c =
+    call-accepted (λ l. l) length (struckText _) (now (c .before .before .before .before .before .before .before .args .out)) _ _ (taken (c .before .before) .read) _ answered (Length _) Short _ refl refl (c .strike .ensures .answer) (c .strike .ensures .output)
 
 pub strike-spec : {M : Type 1} → statement M
 strike-spec =
@@ -74,10 +41,10 @@ strike-spec =
     (tie.spec
     (λ c κs. search needs)
     refused
-    (λ c κs. let e = c .before in (r e .read .ensures .ready .held, text-accepted e))
+    (λ c κs. let a = taken (c .before) in (a .held, a .read))
     (λ c. c .match .keys1)
     (λ c. c .match .keys2)
     (λ c. search needs)
-    whole
+    (λ c. let d = done (c .before .before .before .before .before) in (sym (ap answered (c .before .n .given .1)) ∙ d .0, d .1))
     (λ c. search needs)
-    short)
+    (λ c. let d = done (c .before .before .before .before) in (sym (ap answered (c .enum-told .given .1)) ∙ d .0, d .1)))

@@ -1,30 +1,16 @@
--- `put_winners` is safe and ends: a line is within the probes. Assumes nothing.
+-- `put_winners` is safe and ends: it counts up to the number of lines. Assumes nothing.
 use borrow.Author.Needs.{needs}
 use Prim.Native.Nat.{_-_, _≤_}
-use lib.ListN.{length}
 use Rattle.answers.proofs.put_winners.Statement.{statement}
 use Rattle.answers.proofs.put_winners.Tie as tie
 
 abbrev I : tie.InvT-loop
-I text probes at₀ at = at ≤ length probes
+I text probes k₀ k-end k = k ≤ k-end
 
 abbrev μ : tie.MeasureT-loop
-μ text probes at₀ at = length probes - at
+μ text probes k₀ k-end k = k-end - k
 
 pub put-winners-spec : {M : Type 1} → statement M
 put-winners-spec =
     tie.close
-    (tie.spec
-    I
-    μ
-    (λ c. search needs)
-    (λ c. search needs)
-    (λ c. search needs)
-    (λ c. search needs)
-    (λ c. search needs)
-    (λ c. search needs)
-    (λ c κs. search needs)
-    (λ c. search needs)
-    (λ c. search needs)
-    (λ c. search needs)
-    (λ c. search needs))
+    (tie.spec I μ (λ c. search needs) (λ c κs. search needs) (λ c κs. search needs) (λ c. search needs) (λ c. search needs) (λ c. search needs) (λ c. search needs))

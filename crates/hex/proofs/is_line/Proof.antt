@@ -75,7 +75,6 @@ is-line-spec =
     (λ c. let h = byte c in search needs)
     (λ c. let h = byte c in search needs)
     returns-3
-    (λ c. search needs)
-    (λ c. search needs)
+    (λ c. search needs) (λ c. search needs)
     loop-again
     returns-4)

@@ -1,24 +1,22 @@
--- The kinds that look at all rows go by what the rows below their number are.
+-- The tests go by what the rows and filters below their numbers are: two sights that are alike there give the same tests.
 -- Assumes nothing.
 use Prim.Native.Nat.{ℕ, zero, suc, _<_}
 use mathlib.Core.Path.{_≡_, refl, ap, _∙_}
 use mathlib.Core.Bool.{Bool, true, false, not, _&&_}
-use mathlib.Core.List.{List, [], _∷_}
-use native.Mathlib.Omega.{arith}
+use mathlib.Core.List.{List, [], _∷_, map}
 use lib.Dec.{eqb, ltb}
-use Rattle.policy.specs.Model.{Row, Selector}
-use Rattle.relations.specs.Lists.{among}
+use Rattle.policy.specs.Model.{Filter, Row, Selector}
+use Rattle.base.specs.Lists.{among}
 use Rattle.relations.specs.Selectors.{inhabited, meet}
 use Rattle.kinds.specs.Views.{Placed}
-use Rattle.kinds.specs.Tests.{some, rides, strictlyStronger, superfluous, answers, asymmetric, goesOn, chains, alternativePath}
-
-some-alike : (n : ℕ) (f g : ℕ → Bool) → ((k : ℕ) → k < n → f k ≡ g k) → some n f ≡ some n g
-unfolding some
-some-alike zero f g h = refl
-some-alike (suc n) f g h = rw (h n (omega arith), some-alike n f g (λ k b. h k (omega arith)))
+use Rattle.base.proofs.Laws.Members.{some-alike}
+use Rattle.base.proofs.Laws.Each.{_▹_}
+use Rattle.kinds.specs.Tests.{internalLoop, outOfPlace, nonEnforceable, inadequate, rides, strictlyStronger, superfluous, filters, filtered, layerTwo, answers, asymmetric, cyclic, goesOn, chains, alternativePath, pairOf}
+use Rattle.kinds.specs.Seen.{Seen, pairIn}
+use Rattle.kinds.specs.Kinds.{Kind, noKind, alone, paired, kinds, ofOne, rowTests}
 
 module _ (f g : ℕ → Placed) (rows i : ℕ) (hi : i < rows) (h : (j : ℕ) → j < rows → f j ≡ g j) where
-  pub superfluous-alike : superfluous f rows i ≡ superfluous g rows i
+  superfluous-alike : superfluous f rows i ≡ superfluous g rows i
   unfolding superfluous
   superfluous-alike =
       rw (
@@ -30,10 +28,15 @@ module _ (f g : ℕ → Placed) (rows i : ℕ) (hi : i < rows) (h : (j : ℕ) �
       )
 
 module _ (f g : ℕ → Row) (rows i : ℕ) (hi : i < rows) (h : (j : ℕ) → j < rows → f j ≡ g j) where
-  pub asymmetric-alike : asymmetric f rows i ≡ asymmetric g rows i
+  asymmetric-alike : asymmetric f rows i ≡ asymmetric g rows i
   unfolding asymmetric
   asymmetric-alike =
       ap not (some-alike rows (λ j. answers (f j) (f i)) (λ j. answers (g j) (g i)) (λ j k. rw (h j k, h i hi)))
+
+filtered-alike : (f g : ℕ → Filter) (count : ℕ) → ((k : ℕ) → k < count → f k ≡ g k) → {r q : Row} → r ≡ q → filtered f count r ≡ filtered g count q
+unfolding filtered
+filtered-alike f g count h {r} {q} e =
+    some-alike count (λ k. filters r (f k)) (λ k. filters q (g k)) (λ k b. λ x. filters (e x) (h k b x))
 
 module _ (from from' to to' : ℕ → ℕ) (selector selector' : ℕ → Selector) (rows : ℕ)
     (hf : (j : ℕ) → j < rows → from j ≡ from' j)
@@ -62,7 +65,61 @@ module _ (from from' to to' : ℕ → ℕ) (selector selector' : ℕ → Selecto
           (eqb x a && (not (among y visited) && inhabited (meet s z)))
           && elim (eqb y b) [ true ↦ ltb n 3 | false ↦ chains from' to' selector' rows n b y (y ∷ visited) (meet s z) ]
 
-  pub alternativePath-alike : (i : ℕ) → i < rows → alternativePath from to selector rows i ≡ alternativePath from' to' selector' rows i
+  alternativePath-alike : (i : ℕ) → i < rows → alternativePath from to selector rows i ≡ alternativePath from' to' selector' rows i
   unfolding alternativePath
   alternativePath-alike i h =
       rw (hf i h, ht i h, hs i h) (chains-alike 4 (to' i) (from' i) (from' i ∷ []) (selector' i))
+
+-- ---- what the tests look at
+
+pub record Alike (s u : Seen) : Type 0 where
+  pub up : s .up ≡ u .up
+  pub caps : s .caps ≡ u .caps
+  pub floor : s .floor ≡ u .floor
+  pub filters : s .filters ≡ u .filters
+  pub filter : (k : ℕ) → k < s .filters → s .filter k ≡ u .filter k
+  pub rows : s .rows ≡ u .rows
+  pub placed : (i : ℕ) → i < s .rows → s .placed i ≡ u .placed i
+  pub from-mask : (i : ℕ) → i < s .rows → s .mask (s .placed i .from) ≡ u .mask (u .placed i .from)
+  pub to-mask : (i : ℕ) → i < s .rows → s .mask (s .placed i .to) ≡ u .mask (u .placed i .to)
+  pub dead : (i : ℕ) → i < s .rows → s .dead i ≡ u .dead i
+
+-- What holds of the test of each kind of one row.
+abbrev Alones : ((Seen → ℕ → Bool) → Type 0) → List Kind → Type 0
+Alones P [] = Unit {0}
+Alones P (noKind ∷ l) = Alones P l
+Alones P (alone Q b ∷ l) = P b × Alones P l
+Alones P (paired Q b ∷ l) = Alones P l
+
+alones-map : (s u : Seen) (i : ℕ) (l : List Kind) → Alones (λ b. b s i ≡ b u i) l → map (ofOne s i) l ≡ map (ofOne u i) l
+alones-map s u i [] a = refl
+alones-map s u i (noKind ∷ l) a = ap (λ (m : List Bool). false ∷ m) (alones-map s u i l a)
+alones-map s u i (alone Q b ∷ l) a = λ x. a .0 x ∷ alones-map s u i l (a .1) x
+alones-map s u i (paired Q b ∷ l) a = ap (λ (m : List Bool). false ∷ m) (alones-map s u i l a)
+
+module _ {s u : Seen} (a : Alike s u) where
+  pub pair-alike : (i j : ℕ) → i < s .rows → j < s .rows → pairIn s i j ≡ pairIn u i j
+  pair-alike i j h k = λ x. pairOf (a .up x) i j (a .placed i h x) (a .placed j k x)
+
+  row : (j : ℕ) → j < s .rows → s .placed j .row ≡ u .placed j .row
+  row j h = ap (λ (p : Placed). p .row) (a .placed j h)
+
+  pub row-alike : (i : ℕ) → i < s .rows → rowTests s i ≡ rowTests u i
+  row-alike i h = ap (λ (l : List Bool). false ∷ l) (alones-map s u i kinds each)
+    where
+      each : Alones (λ b. b s i ≡ b u i) kinds
+      each =
+          ap internalLoop (a .placed i h)
+          ▹ ap outOfPlace (a .placed i h)
+          ▹ (λ x. nonEnforceable (a .from-mask i h x) (a .to-mask i h x) (a .caps x) (row i h x))
+          ▹ (λ x. inadequate (a .floor x) (row i h x))
+          ▹ (superfluous-alike (s .placed) (u .placed) (s .rows) i h (a .placed) ∙ ap (λ (n : ℕ). superfluous (u .placed) n i) (a .rows))
+          ▹ (filtered-alike (s .filter) (u .filter) (s .filters) (a .filter) (row i h) ∙ ap (λ (n : ℕ). filtered (u .filter) n (u .placed i .row)) (a .filters))
+          ▹ ap layerTwo (row i h)
+          ▹ (asymmetric-alike (λ j. s .placed j .row) (λ j. u .placed j .row) (s .rows) i h row ∙ ap (λ (n : ℕ). asymmetric (λ j. u .placed j .row) n i) (a .rows))
+          ▹ ap cyclic (a .placed i h)
+          ▹ (alternativePath-alike (λ j. s .placed j .from) (λ j. u .placed j .from) (λ j. s .placed j .to) (λ j. u .placed j .to) (λ j. s .placed j .row .selector) (λ j. u .placed j .row .selector) (s .rows)
+          (λ j k. ap (λ (p : Placed). p .from) (a .placed j k)) (λ j k. ap (λ (p : Placed). p .to) (a .placed j k)) (λ j k. ap (λ (r : Row). r .selector) (row j k)) i h
+          ∙ ap (λ (n : ℕ). alternativePath (λ j. u .placed j .from) (λ j. u .placed j .to) (λ j. u .placed j .row .selector) n i) (a .rows))
+          ▹ a .dead i h
+          ▹ tt

@@ -7,13 +7,12 @@ use mathlib.Core.Logic.{inl, inr}
 use mathlib.Core.List.{List, [], _∷_, _++_, List·Memᴰ, List·Memᴰ·head, List·Memᴰ·tail, List·Memᴰ·not-nil, List·Memᴰ·append-cases}
 use native.Mathlib.Omega.{arith}
 use lib.ListN.{length}
-use Rattle.hex.specs.Digits.{pick}
+use Rattle.base.specs.Truths.{pick}
 use Rattle.policy.specs.Model.{Table}
 use Rattle.policy.specs.Wellformed.{Wellformed}
-use Rattle.kinds.specs.Kinds.{noSecond}
-use Rattle.kinds.specs.Tests.{anomaly}
-use Rattle.kinds.specs.Entries.{Entry, entry, gather, listed, entries, Before, by-row, by-kind, by-second, Ascending}
-use Rattle.kinds.proofs.Laws.Entries.{gather-of, listed-of, ofKind, ofRow}
+use Rattle.kinds.specs.Kinds.{kindCount, noSecond, anomaly}
+use Rattle.kinds.specs.Entries.{Entry, entry, gather, listed, ofKind, ofRow, entries, Before, by-row, by-kind, by-second, Ascending}
+use Rattle.kinds.proofs.Laws.Entries.{gather-of, listed-of}
 
 -- Each entry of the one list is before each of the other.
 abbrev AllBefore : List Entry → List Entry → Type 0
@@ -55,7 +54,7 @@ module _ (t : Table) (w : Wellformed t) where
   ]
 
   row-of : (i : ℕ) (e : Entry) → List·Memᴰ e (ofRow t i) → e .row ≡ i
-  row-of i e m = let r = gather-of e (ofKind t i) 20 1 m in kind-of i (r .0) e (r .3) .0
+  row-of i e m = let r = gather-of e (ofKind t i) kindCount 1 m in kind-of i (r .0) e (r .3) .0
 
   -- Of one row and kind, second numbers that differ.
   seconds : (i kind j k : ℕ) → j < k → AllBefore (listed t i kind j) (listed t i kind k)
@@ -78,7 +77,7 @@ module _ (t : Table) (w : Wellformed t) where
 
   row-ascends : (i : ℕ) → Ascending (ofRow t i)
   row-ascends i =
-      gather-ascends (ofKind t i) 20 1 (kind-ascends i)
+      gather-ascends (ofKind t i) kindCount 1 (kind-ascends i)
       (λ x y h e f p q.
       let a = kind-of i x e p in
       let b = kind-of i y f q in

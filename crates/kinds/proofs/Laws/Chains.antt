@@ -8,7 +8,8 @@ use lib.Dec.{eqb, ltb}
 use borrow.Author.Tests.{eq-eqb, ne-eqb, lt-ltb, le-ltb}
 use Rattle.policy.specs.Model.{Selector}
 use Rattle.relations.specs.Selectors.{meet}
-use Rattle.kinds.specs.Tests.{some, goesOn, chains}
+use Rattle.base.specs.Lists.{some}
+use Rattle.kinds.specs.Tests.{goesOn, chains}
 
 module _ (from to : ℕ → ℕ) (selector : ℕ → Selector) (rows n b a : ℕ) (visited : List ℕ) (s : Selector) where
   -- Row j is the next of a chain that may have n rows more.

@@ -8,14 +8,14 @@ use mathlib.Core.List.{List, [], _∷_, _++_, List·Memᴰ, List·Memᴰ·head, 
 use native.Mathlib.Omega.{arith}
 use lib.Dec.{eqb}
 use lib.ListN.{length, getD}
-use Rattle.hex.specs.Digits.{pick}
+use Rattle.base.specs.Truths.{pick}
 use Rattle.policy.specs.Model.{Table}
 use Rattle.policy.specs.Wellformed.{Wellformed}
-use Rattle.relations.proofs.Laws.Decides.{decides-holds, decides-eqb, decided}
-use Rattle.kinds.specs.Kinds.{IsRow, noSecond, Alone, Paired, kinds, Anomaly}
-use Rattle.kinds.specs.Tests.{anomaly}
-use Rattle.kinds.specs.Entries.{Entry, entry, gather, listed, entries}
-use Rattle.kinds.proofs.Laws.Anomalies.{_▹_, anomaly-decides}
+use Rattle.base.proofs.Laws.Decides.{decides-holds, decides-eqb, decided}
+use Rattle.kinds.specs.Meanings.{IsRow}
+use Rattle.kinds.specs.Kinds.{Kind, noKind, alone, paired, kindCount, numbered, kindAt, noSecond, Says, Anomaly, anomaly}
+use Rattle.kinds.specs.Entries.{Entry, entry, gather, listed, ofKind, ofRow, entries}
+use Rattle.kinds.proofs.Laws.Anomalies.{anomaly-decides}
 
 -- ---- lists one after another
 
@@ -53,38 +53,23 @@ gather-same f g (suc n) k h =
 
 -- ---- what an anomaly's numbers are
 
--- Each statement of the list gives B.
-abbrev EachGives : Type 0 → List (Type 0) → Type 0
-EachGives B [] = Unit {0}
-EachGives B (P ∷ Ps) = (P → B) × EachGives B Ps
+-- A number at which a kind says something is that of a kind.
+small : (t : Table) (i j : ℕ) (l : List Kind) (k : ℕ) → Says t (getD l k noKind) i j → k < length l
+small t i j [] k h = absurd h
+small t i j (x ∷ l) zero h = omega arith
+small t i j (x ∷ l) (suc k) h = let r = small t i j l k h in omega arith
 
-gives-at : (B : Type 0) (Ps : List (Type 0)) → EachGives B Ps → (k : ℕ) → getD Ps k ⊥ → (k < length Ps) × B
-gives-at B [] g k h = absurd h
-gives-at B (P ∷ Ps) g zero h = (omega arith, g .0 h)
-gives-at B (P ∷ Ps) g (suc k) h = let r = gives-at B Ps (g .1) k h in (omega (arith, r .0), r .1)
+not-0 : (t : Table) (i kind j : ℕ) → Anomaly t i kind j → 0 < kind
+not-0 t i zero j h = absurd (h .1)
+not-0 t i (suc kind) j h = omega arith
+
+-- The second number is a row's, or FF.
+second : (t : Table) (i j : ℕ) (k : Kind) → Says t k i j → IsRow t j ⊎ (j ≡ noSecond)
+second t i j noKind h = absurd h
+second t i j (alone P b) h = inr (h .0)
+second t i j (paired P b) h = inl (h .0)
 
 module _ (t : Table) where
-  -- The second number is a row's, or FF.
-  abbrev Second : ℕ → Type 0
-  Second j = IsRow t j ⊎ (j ≡ noSecond)
-
-  of-one : (j : ℕ) {P : Type 0} → Alone t j P → Second j
-  of-one j h = inr (h .0)
-
-  of-two : (j : ℕ) {P : Type 0} → Paired t j P → Second j
-  of-two j h = inl (h .0)
-
-  kinds-second : (i j : ℕ) → EachGives (Second j) (kinds t i j)
-  kinds-second i j =
-      (λ h. absurd h) ▹ of-one j ▹ of-one j ▹ of-one j ▹ of-one j ▹ of-two j ▹ of-two j
-      ▹ of-two j ▹ of-two j ▹ of-two j ▹ of-two j ▹ of-two j ▹ of-one j ▹ of-two j
-      ▹ of-one j ▹ of-one j ▹ of-one j ▹ of-one j ▹ of-two j ▹ of-one j ▹ of-one j
-      ▹ tt
-
-  not-0 : (i kind j : ℕ) → Anomaly t i kind j → 0 < kind
-  not-0 i zero j h = absurd (h .1)
-  not-0 i (suc kind) j h = omega arith
-
   -- ---- the entries
 
   pub listed-of : (i kind j : ℕ) (e : Entry) → List·Memᴰ e (listed t i kind j) → (e ≡ entry i kind j) × (anomaly t i kind j ≡ true)
@@ -94,14 +79,7 @@ module _ (t : Table) where
       go true q n = (List·Memᴰ·eq-of-singleton n, q)
       go false q n = absurd (List·Memᴰ·not-nil n)
 
-  -- As in `entries`: of a row and a kind, and of a row.
-  abbrev pub ofKind : ℕ → ℕ → List Entry
-  ofKind i kind = gather (length (t .rows)) 0 (λ j. listed t i kind j) ++ listed t i kind noSecond
-
-  abbrev pub ofRow : ℕ → List Entry
-  ofRow i = gather 20 1 (ofKind i)
-
-  pub entries-rows : entries t ≡ gather (length (t .rows)) 0 ofRow
+  pub entries-rows : entries t ≡ gather (length (t .rows)) 0 (ofRow t)
   unfolding entries
   entries-rows = refl
 
@@ -120,18 +98,18 @@ module _ (t : Table) where
         let e = entry i kind j in
         let n = length (t .rows) in (
           λ m.
-              let r = gather-of e ofRow n 0 m in
-              let k = gather-of e (ofKind (r .0)) 20 1 (r .3) in
+              let r = gather-of e (ofRow t) n 0 m in
+              let k = gather-of e (ofKind t (r .0)) kindCount 1 (r .3) in
               elim (List·Memᴰ·append-cases (gather n 0 (λ s. listed t (r .0) (k .0) s)) (k .3)) [
                 | inl p ↦ let s = gather-of e (λ x. listed t (r .0) (k .0) x) n 0 p in anomaly-at (r .0) (k .0) (s .0) (listed-of (r .0) (k .0) (s .0) e (s .3))
                 | inr a ↦ anomaly-at (r .0) (k .0) noSecond (listed-of (r .0) (k .0) noSecond e a)
               ],
           λ h.
-              let b = gives-at (Second j) (kinds t i j) (kinds-second i j) kind (h .1) in
-              let z = not-0 i kind j h in
-              gather-in e ofRow n 0 i (omega arith) (omega (arith, h .0))
-              (gather-in e (ofKind i) 20 1 kind (omega arith) (omega (arith, b .0))
-              (elim (b .1) [
+              let b = small t i j numbered kind (h .1) in
+              let z = not-0 t i kind j h in
+              gather-in e (ofRow t) n 0 i (omega arith) (omega (arith, h .0))
+              (gather-in e (ofKind t i) kindCount 1 kind (omega arith) (omega arith)
+              (elim (second t i j (kindAt kind) (h .1)) [
                 | inl p ↦ Memᴰ·append-left (listed t i kind noSecond) (gather-in e (λ s. listed t i kind s) n 0 j (omega arith) (omega (arith, p)) (listed-in h))
                 | inr a ↦ Memᴰ·append-right (gather n 0 (λ s. listed t i kind s)) (subst (λ (x : ℕ). List·Memᴰ e (listed t i kind x)) a (listed-in h))
               ])),

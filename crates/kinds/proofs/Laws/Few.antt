@@ -1,29 +1,35 @@
--- At most 12,800 entries: at most three for each ordered pair of different rows, and eleven for each row alone, 64 · 63 · 3 + 64 · 11.
+-- At most 12,800 entries: of each row at most three with each other row, and eleven alone, 63 · 3 + 11.
 -- Assumes nothing.
-use Prim.Native.Nat.{ℕ, zero, suc, _+_, _*_, _≤_, _<_}
+use Prim.Native.Nat.{ℕ, zero, suc, _+_, _-_, _*_, _≤_, _<_}
 use mathlib.Core.Path.{_≡_, refl, sym, ap, _∙_}
 use mathlib.Core.Bool.{Bool, true, false}
 use mathlib.Core.Logic.{inl, inr}
-use mathlib.Core.List.{List, [], _∷_}
+use mathlib.Core.List.{List, [], _∷_, map}
+use native.Mathlib.Numerals.{add-one}
 use native.Mathlib.Omega.{arith}
 use lib.Dec.{eqb, ltb}
-use lib.ListN.{length, length-append}
-use Rattle.hex.specs.Digits.{pick}
+use lib.ListN.{length, getD, length-append}
+use Rattle.base.specs.Truths.{pick, Decides, bit}
+use Rattle.policy.specs.Limits.{mostRows}
 use Rattle.policy.specs.Model.{Table, rowAt, parentOf}
 use Rattle.policy.specs.Wellformed.{Wellformed}
-use Rattle.relations.specs.Decides.{Decides}
 use Rattle.relations.specs.Technologies.{layerOf}
-use Rattle.relations.proofs.Laws.Decides.{decides-eqb, decides-ltb, decides-holds, decides-fails, decided}
+use Rattle.base.proofs.Laws.Decides.{decides-eqb, decides-ltb, decides-holds, decides-fails, decided}
 use Rattle.relations.proofs.Laws.Entities.{above-antisym}
 use Rattle.relations.proofs.Laws.Selectors.{contains-antisym}
 use Rattle.relations.proofs.Laws.Tables.{table-tree}
-use Rattle.search.specs.Views.{bit}
-use Rattle.search.proofs.Laws.Loops.{bit-le}
-use Rattle.kinds.specs.Kinds.{IsRow, noSecond, EarlierInGroup, Encloses, SameTraffic, Contradiction}
-use Rattle.kinds.specs.Tests.{pairAt, shadowing, redundancy, exception, correlation, inclusion, affinity, contradiction, skewed, monitorable, anomaly}
-use Rattle.kinds.specs.Entries.{Entry, entry, gather, listed, entries}
-use Rattle.kinds.proofs.Laws.Entries.{ofKind, ofRow}
+use Rattle.base.proofs.Laws.Passing.{bit-le}
+use Rattle.kinds.specs.Meanings.{IsRow, EarlierInGroup, Encloses, SameTraffic, Contradiction}
+use Rattle.kinds.specs.Tests.{pairAt, shadowing, redundancy, exception, correlation, inclusion, affinity, contradiction, skewed, monitorable}
+use Rattle.kinds.specs.Seen.{Seen, seenOf}
+use Rattle.kinds.specs.Kinds.{Kind, noKind, alone, paired, kinds, kindCount, noSecond, anomaly, ofOne}
+use Rattle.kinds.specs.Entries.{Entry, entry, gather, listed, ofKind, ofRow, entries, mostEntries}
 use Rattle.kinds.proofs.Laws.Pairs as pairs
+use Rattle.kinds.proofs.Laws.Splits.{anomaly-row}
+
+-- Of one row.
+abbrev mostOfRow : ℕ
+mostOfRow = 3 * (mostRows - 1) + 11
 
 -- ---- sums
 
@@ -90,13 +96,33 @@ counted-le : (b : Bool) → counted b ≤ 1
 unfolding counted
 counted-le b = bit-le b
 
--- One more that may hold; one more that cannot.
-more : (b : Bool) {m n : ℕ} → m ≤ n → counted b + m ≤ suc n
-more b h = omega (arith, counted-le b)
+-- Tests at their places, from k on.
+total : List Bool → ℕ
+total [] = 0
+total (b ∷ bs) = counted b + total bs
 
-skip : {m n : ℕ} → m ≤ n → counted false + m ≤ n
-unfolding counted
-skip h = omega arith
+sum-list : (bs : List Bool) (k : ℕ) (f : ℕ → ℕ) → ((m : ℕ) → f (m + k) ≡ counted (getD bs m false)) → sum (length bs) k f ≡ total bs
+unfolding sum total
+sum-list [] k f h = refl
+sum-list (b ∷ bs) k f h =
+    let z : 0 + k ≡ k = omega arith in
+    let e : f k ≡ counted b = ap f (sym z) ∙ h 0 in
+    let r = sum-list bs (suc k) f (λ m. let q : m + suc k ≡ suc m + k = omega arith in ap f q ∙ h (suc m)) in
+    omega arith
+
+-- How many kinds are of one row: no more hold of it alone.
+aloneCount : List Kind → ℕ
+aloneCount [] = 0
+aloneCount (noKind ∷ l) = aloneCount l
+aloneCount (alone P b ∷ l) = suc (aloneCount l)
+aloneCount (paired P b ∷ l) = aloneCount l
+
+alone-most : (s : Seen) (i : ℕ) (l : List Kind) → total (map (ofOne s i) l) ≤ aloneCount l
+unfolding total aloneCount counted
+alone-most s i [] = omega arith
+alone-most s i (noKind ∷ l) = let r = alone-most s i l in omega arith
+alone-most s i (alone P b ∷ l) = let r = alone-most s i l in omega (arith, counted-le (b s i))
+alone-most s i (paired P b ∷ l) = let r = alone-most s i l in omega arith
 
 -- One more that does not hold; one more, and where it holds nothing else does.
 none : (b : Bool) {P : Type 0} → Decides b P → (P → ⊥) → (n : ℕ) → n ≡ 0 → counted b + n ≡ 0
@@ -129,19 +155,17 @@ module _ (t : Table) (w : Wellformed t) (i : ℕ) (hi : IsRow t i) where
   is-row = decides-holds _ (decides-ltb i (length (t .rows))) hi
 
   -- At a row: nine kinds.
-  of-two : (j : ℕ) → IsRow t j → sum 20 1 (λ kind. found kind j) ≡ seven j + two j
+  of-two : (j : ℕ) → IsRow t j → sum kindCount 1 (λ kind. found kind j) ≡ seven j + two j
   unfolding sum anomaly counted
   of-two j hj =
       let k = w .few-rows in
       rw (is-row, decides-holds _ (decides-ltb j (length (t .rows))) hj, decides-fails _ (decides-eqb j noSecond) (λ e. omega arith)) (omega arith)
 
-  -- At FF: eleven kinds.
-  of-one : sum 20 1 (λ kind. found kind noSecond) ≤ 11
-  unfolding sum anomaly
+  -- At FF: the kinds of one row.
+  of-one : sum kindCount 1 (λ kind. found kind noSecond) ≤ aloneCount kinds
   of-one =
-      let k = w .few-rows in
-      rw (is-row, decides-fails _ (decides-ltb noSecond (length (t .rows))) (λ h. omega arith))
-      (more _ (more _ (more _ (more _ (skip (skip (skip (skip (skip (skip (skip (more _ (skip (more _ (more _ (more _ (more _ (skip (more _ (more _ (omega arith)))))))))))))))))))))
+      let e = sum-list (map (ofOne (seenOf t) i) kinds) 1 (λ kind. found kind noSecond) (λ m. rw (add-one m) (ap counted (anomaly-row t w i (suc m) hi))) in
+      omega (arith, alone-most (seenOf t) i kinds)
 
   -- None at the row itself.
   no-seven : seven i ≡ 0
@@ -200,7 +224,7 @@ module _ (t : Table) (w : Wellformed t) (i : ℕ) (hi : IsRow t i) where
         (one _ aff _ (λ a. none _ con (λ x. one-null x (a .not-null) (a .other-not-null)) _ refl)
         (one _ con _ (λ x. refl) (omega arith)))))))
 
-    at-most-three : sum 20 1 (λ kind. found kind j) ≤ 3
+    at-most-three : sum kindCount 1 (λ kind. found kind j) ≤ 3
     at-most-three =
         rw (of-two j hj)
         (omega (arith, at-most-one, counted-le (skewed (pairAt t i j)), counted-le (monitorable (pairAt t i j))))
@@ -213,23 +237,24 @@ module _ (t : Table) (w : Wellformed t) (i : ℕ) (hi : IsRow t i) where
       ∙ (λ k. gather-length (λ j. listed t i kind j) (found kind) (λ j. pick-length _ (entry i kind j)) (length (t .rows)) 0 k
       + pick-length (anomaly t i kind noSecond) (entry i kind noSecond) k)
 
-  row-length : length (ofRow t i) ≤ 200
+  row-length : length (ofRow t i) ≤ mostOfRow
+  unfolding aloneCount
   row-length =
       let n = length (t .rows) in
-      let a = gather-length (ofKind t i) _ kind-length 20 1 in
-      let b = sum-add (λ kind. sum n 0 (found kind)) (λ kind. found kind noSecond) 20 1 in
-      let c = sum-exchange found n 0 20 1 in
-      let d = sum-but (λ j. sum 20 1 (λ kind. found kind j)) 3 i n 0 (omega arith) (omega arith) (λ j l m. at-most-three j (omega arith)) (omega (arith, of-two i hi, no-seven, no-two)) in
+      let a = gather-length (ofKind t i) _ kind-length kindCount 1 in
+      let b = sum-add (λ kind. sum n 0 (found kind)) (λ kind. found kind noSecond) kindCount 1 in
+      let c = sum-exchange found n 0 kindCount 1 in
+      let d = sum-but (λ j. sum kindCount 1 (λ kind. found kind j)) 3 i n 0 (omega arith) (omega arith) (λ j l m. at-most-three j (omega arith)) (omega (arith, of-two i hi, no-seven, no-two)) in
       let e = of-one in
       let f = w .few-rows in
       omega arith
 
 -- "At most 12,800 entries"
-pub entries-few : (t : Table) → Wellformed t → length (entries t) ≤ 12800
+pub entries-few : (t : Table) → Wellformed t → length (entries t) ≤ mostEntries
 unfolding entries
 entries-few t w =
     let n = length (t .rows) in
     let a = gather-length (ofRow t) (λ i. length (ofRow t i)) (λ i. refl) n 0 in
-    let b = sum-le (λ i. length (ofRow t i)) 200 n 0 (λ i l m. row-length t w i (omega arith)) in
+    let b = sum-le (λ i. length (ofRow t i)) mostOfRow n 0 (λ i l m. row-length t w i (omega arith)) in
     let f = w .few-rows in
     omega arith

@@ -5,15 +5,15 @@ use mathlib.Core.Path.{_≡_, sym}
 use lib.Dec.{eqb}
 use Rattle.policy.specs.Model.{Table, rowAt, parentOf}
 use Rattle.policy.specs.Wellformed.{Wellformed, Ordered}
-use Rattle.relations.specs.Decides.{Decides}
-use Rattle.relations.proofs.Laws.Decides.{decides-as, decides-and, decides-or, decides-not, decides-eqb, decides-ltb}
-use Rattle.relations.proofs.Laws.Lists.{among-decides, same-decides}
+use Rattle.base.specs.Truths.{Decides}
+use Rattle.base.proofs.Laws.Decides.{decides-as, decides-and, decides-or, decides-not, decides-eqb, decides-ltb}
+use Rattle.base.proofs.Laws.Members.{among-decides, same-decides}
 use Rattle.relations.proofs.Laws.Entities.{atOrAbove-decides}
 use Rattle.relations.proofs.Laws.Technologies.{dominates-decides}
 use Rattle.relations.proofs.Laws.Coefficients.{atLeast-decides}
 use Rattle.relations.proofs.Laws.Groups.{sameGroup-decides}
 use Rattle.relations.proofs.Laws.Selectors.{contains-decides, overlaps-decides, sameSelector-decides}
-use Rattle.kinds.specs.Kinds.{IsRow, Meets, Encloses, Stronger, Earlier, EarlierInGroup, Shadowing, Redundancy, SameTraffic, Exception, Correlation, Inclusion, Affinity, Contradiction, Crossing, Skewed, Monitorable}
+use Rattle.kinds.specs.Meanings.{IsRow, Meets, Encloses, Stronger, Earlier, EarlierInGroup, Shadowing, Redundancy, SameTraffic, Exception, Correlation, Inclusion, Affinity, Contradiction, Crossing, Skewed, Monitorable}
 use Rattle.kinds.specs.Tests.{pairAt, encloses, sameTraffic, shadowing, redundancy, exception, correlation, inclusion, inclusionBack, affinity, contradiction, skewed, monitorable}
 
 module _ (t : Table) (w : Wellformed t) where

@@ -9,17 +9,18 @@ use mathlib.Core.List.{List, [], _∷_, map, List·Memᴰ, List·Memᴰ·head, L
 use native.Mathlib.Omega.{arith}
 use lib.Dec.{eqb, ltb}
 use lib.ListN.{length}
+use Rattle.policy.specs.Limits.{fieldCount}
 use Rattle.policy.specs.Model.{Selector, Table, rowAt}
 use Rattle.policy.specs.Wellformed.{Wellformed}
 use Rattle.policy.proofs.Laws.Tables.{five-ranges}
-use Rattle.relations.specs.Decides.{Decides}
+use Rattle.base.specs.Truths.{Decides}
 use Rattle.relations.specs.Selectors.{Inhabited, MeetAll, meet}
-use Rattle.relations.proofs.Laws.Decides.{decides-as, decides-false, decides-and, decides-not, decides-eqb, decides-ltb}
-use Rattle.relations.proofs.Laws.Lists.{among-decides}
+use Rattle.base.proofs.Laws.Decides.{decides-as, decides-false, decides-and, decides-not, decides-eqb, decides-ltb, decides-either}
+use Rattle.base.proofs.Laws.Members.{among-decides, Some, some-decides}
 use Rattle.relations.proofs.Laws.Selectors.{inhabited-decides, meet-length, meetAll-more, meetAll-less}
-use Rattle.kinds.specs.Kinds.{Twice, IsRow, sourceRoot, destinationRoot, Chains, AlternativePath}
+use Rattle.kinds.specs.Meanings.{Twice, IsRow, sourceRoot, destinationRoot, Chains, AlternativePath}
 use Rattle.kinds.specs.Tests.{goesOn, chains, alternativePath}
-use Rattle.kinds.proofs.Laws.Lists.{Some, some-decides, decides-either, twice-cons, twice-uncons, twice-none}
+use Rattle.kinds.proofs.Laws.Lists.{twice-cons, twice-uncons, twice-none}
 
 module _ (t : Table) where
   -- The rows lead from the root a to the root b, each to a root that was not visited before.
@@ -88,8 +89,8 @@ module _ (t : Table) where
   ]
 
 module _ (t : Table) (w : Wellformed t) where
-  five : (j : ℕ) → IsRow t j → length (rowAt t j .selector) ≡ 5
-  five j h = five-ranges (w .row j h .selector)
+  all-fields : (j : ℕ) → IsRow t j → length (rowAt t j .selector) ≡ fieldCount
+  all-fields j h = five-ranges (w .row j h .selector)
 
   -- ---- the chain search
 
@@ -116,11 +117,11 @@ module _ (t : Table) (w : Wellformed t) where
   meets-first : (s : Selector) (j : ℕ) (js : List ℕ) → length (rowAt t j .selector) ≡ length s → MeetAll s (selectorsOf (j ∷ js)) → Inhabited (meet s (rowAt t j .selector))
   meets-first s j js same m = let h = meetAll-less s (rowAt t j .selector) (selectorsOf js) same m in (h .0, h .1)
 
-  chains-decides : (n b a : ℕ) (visited : List ℕ) (s : Selector) → length s ≡ 5
+  chains-decides : (n b a : ℕ) (visited : List ℕ) (s : Selector) → length s ≡ fieldCount
       → Decides (chains (sourceRoot t) (destinationRoot t) selector-at (length (t .rows)) n b a visited s) (Reach n b a visited s)
   unfolding chains
-  chains-decides zero b a visited s five-fields = decides-false (λ h. let m = h .1 in let k = h .2 in absurd (omega arith))
-  chains-decides (suc n) b a visited s five-fields =
+  chains-decides zero b a visited s fields = decides-false (λ h. let m = h .1 in let k = h .2 in absurd (omega arith))
+  chains-decides (suc n) b a visited s fields =
       decides-as join (λ h. split (h .0) (h .1) (h .2) (h .3) (h .4 .0) (h .4 .1))
       (some-decides (length (t .rows))
       (λ j.
@@ -133,10 +134,10 @@ module _ (t : Table) (w : Wellformed t) where
       decides-and _ _ (goesOn-decides j a visited s)
       (decides-either _ _ _ (decides-eqb _ _) (decides-ltb n 3)
       (chains-decides n b (destinationRoot t j) (destinationRoot t j ∷ visited) (meet s (rowAt t j .selector))
-      (meet-length s (rowAt t j .selector) (same j h) ∙ five-fields)))))
+      (meet-length s (rowAt t j .selector) (same j h) ∙ fields)))))
     where
       same : (j : ℕ) → IsRow t j → length (rowAt t j .selector) ≡ length s
-      same j h = five j h ∙ sym five-fields
+      same j h = all-fields j h ∙ sym fields
 
       First : ℕ → Type 0
       First j =
@@ -246,4 +247,4 @@ module _ (t : Table) (w : Wellformed t) where
 
     pub alternativePath-decides : Decides (alternativePath (sourceRoot t) (destinationRoot t) selector-at (length (t .rows)) i) (AlternativePath t i)
     unfolding alternativePath
-    alternativePath-decides = decides-as join split (chains-decides 4 to from (from ∷ []) (rowAt t i .selector) (five i hi))
+    alternativePath-decides = decides-as join split (chains-decides 4 to from (from ∷ []) (rowAt t i .selector) (all-fields i hi))

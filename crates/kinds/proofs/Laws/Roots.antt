@@ -1,57 +1,54 @@
 -- Laws of tests on lists of roots: one element at a time, and with one more at the end.
 -- Assumes nothing.
 use Prim.Native.Nat.{ℕ, suc, _+_, _≤_, _<_}
-use mathlib.Core.Path.{_≡_, refl, sym}
-use mathlib.Core.Bool.{Bool, true, false, _||_, or-false, or-comm}
+use mathlib.Core.Path.{_≡_, refl, sym, _∙_}
+use mathlib.Core.Bool.{Bool, true, false, _&&_, _||_, or-false, or-comm}
 use mathlib.Core.List.{List, [], _∷_, _++_}
 use native.Mathlib.Numerals.{add-one}
 use native.Mathlib.Omega.{arith}
 use lib.Dec.{eqb}
-use lib.ListN.{length, getD, drop, drop-of-length-le}
-use lib.Seq.{drop-cons}
+use lib.ListN.{length, getD, take, drop}
+use lib.Seq.{drop-cons, length-take-le, getD-take}
 use borrow.Author.Tests.{eq-eqb, ne-eqb, eqb-true, eqb-false}
-use Rattle.relations.specs.Lists.{among}
-use Rattle.relations.proofs.Laws.Decides.{decides-fails}
-use Rattle.relations.proofs.Laws.Lists.{among-decides, among-cons, among-last}
+use Rattle.base.specs.Lists.{among}
+use Rattle.base.proofs.Laws.Decides.{decides-fails}
+use Rattle.base.proofs.Laws.Members.{among-decides, among-cons, among-last, at-member}
 use Rattle.kinds.specs.Tests.{inOrder, twice, empty}
-use Rattle.kinds.proofs.Laws.Lists.{at-place, inOrder-decides}
+use Rattle.kinds.proofs.Laws.Lists.{inOrder-decides}
 
 -- What stands at a later place is among the numbers: where b is not, nothing is in order with it.
 later-found : (a b : ℕ) (l : List ℕ) (t : Bool) → among b l ≡ t → (t || inOrder a b l) ≡ t
 later-found a b l true e = refl
 later-found a b l false e =
     decides-fails (inOrder a b l) (inOrder-decides a b l)
-    (λ h. among-decides b l .no e (rw (h .second) at (at-place l (h .later) (h .last))))
+    (λ h. among-decides b l .no e (rw (h .second) at (at-member 0 l (h .later) (h .last))))
 
--- What is left of a list from k on.
-module _ (xs : List ℕ) (k : ℕ) where
-  module _ (a b : ℕ) where
-    -- The first place of a decides: b stands behind it, or behind no place of a.
-    pub inOrder-here : k < length xs → getD xs k 0 ≡ a → inOrder a b (drop k xs) ≡ among b (drop (k + 1) xs)
-    unfolding inOrder
-    inOrder-here h e =
-        rw (add-one k, drop-cons xs k 0 h, eq-eqb a (getD xs k 0) (sym e))
-        (later-found a b (drop (suc k) xs) (among b (drop (suc k) xs)) refl)
+-- One element at a time.
+pub inOrder-nil : (a b : ℕ) → inOrder a b [] ≡ false
+unfolding inOrder
+inOrder-nil a b = refl
 
-    pub inOrder-next : k < length xs → (getD xs k 0 ≡ a → ⊥) → inOrder a b (drop k xs) ≡ inOrder a b (drop (k + 1) xs)
-    unfolding inOrder
-    inOrder-next h n = rw (add-one k, drop-cons xs k 0 h, ne-eqb a (getD xs k 0) (λ e. n (sym e)))
+pub inOrder-more : (a b x : ℕ) (xs : List ℕ) → inOrder a b (x ∷ xs) ≡ ((eqb a x && among b xs) || inOrder a b xs)
+unfolding inOrder
+inOrder-more a b x xs = refl
 
-    pub inOrder-end : length xs ≤ k → inOrder a b (drop k xs) ≡ false
-    unfolding inOrder
-    inOrder-end h = rw (drop-of-length-le xs {i = k} h)
+pub twice-nil : twice [] ≡ false
+unfolding twice
+twice-nil = refl
 
-  pub twice-here : k < length xs → among (getD xs k 0) (drop (k + 1) xs) ≡ true → twice (drop k xs) ≡ true
-  unfolding twice
-  twice-here h e = let f = rw (add-one k) at e in rw (drop-cons xs k 0 h, f)
+pub twice-more : (x : ℕ) (xs : List ℕ) → twice (x ∷ xs) ≡ (among x xs || twice xs)
+unfolding twice
+twice-more x xs = refl
 
-  pub twice-next : k < length xs → among (getD xs k 0) (drop (k + 1) xs) ≡ false → twice (drop k xs) ≡ twice (drop (k + 1) xs)
-  unfolding twice
-  twice-next h e = let f = rw (add-one k) at e in rw (add-one k, drop-cons xs k 0 h, f)
-
-  pub twice-end : length xs ≤ k → twice (drop k xs) ≡ false
-  unfolding twice
-  twice-end h = rw (drop-of-length-le xs {i = k} h)
+-- The first place of a decides: b stands behind it, or behind no place of a.
+pub inOrder-here : (a b : ℕ) (at : List ℕ) (n : ℕ) → n ≤ length at → (k : ℕ) → k < n → getD at k 0 ≡ a
+    → inOrder a b (drop k (take n at)) ≡ among b (drop (k + 1) (take n at))
+unfolding inOrder
+inOrder-here a b at n fits k h e =
+    let l = length-take-le n at fits in
+    let g = getD-take n at k 0 h in
+    rw (add-one k, drop-cons (take n at) k 0 (omega arith), eq-eqb a (getD (take n at) k 0) (sym (g ∙ e)))
+    (later-found a b (drop (suc k) (take n at)) (among b (drop (suc k) (take n at))) refl)
 
 -- There are none where none are counted.
 pub empty-length : (xs : List ℕ) → eqb (length xs) 0 ≡ empty xs

@@ -1,37 +1,36 @@
 -- The tests of kinds of one row agree with their meanings, in a well-formed table: all but the alternative path.
 -- Assumes nothing.
-use Prim.Native.Nat.{ℕ, zero, suc, _<_}
+use Prim.Native.Nat.{ℕ}
 use mathlib.Core.Path.{_≡_, refl}
 use mathlib.Core.Bool.{not, _&&_}
-use mathlib.Core.Logic.{_⊎_, inl, inr}
-use mathlib.Core.List.{List, [], _∷_, List·Memᴰ}
+use mathlib.Core.Logic.{inl, inr}
+use mathlib.Core.List.{List, [], _∷_}
 use native.Mathlib.Omega.{arith}
 use lib.Dec.{eqb}
 use lib.ListN.{length, getD}
-use Rattle.policy.specs.Model.{Filter, Table, noFilter, entityAt, rowAt}
+use Rattle.policy.specs.Model.{Table, noFilter, entityAt, rowAt}
 use Rattle.policy.specs.Wellformed.{Wellformed}
-use Rattle.relations.specs.Decides.{Decides}
+use Rattle.base.specs.Truths.{Decides}
 use Rattle.relations.specs.Coefficients.{AtLeast}
-use Rattle.relations.specs.Selectors.{Contains}
 use Rattle.relations.specs.Groups.{Dead}
-use Rattle.relations.proofs.Laws.Decides.{decides-true, decides-false, decides-as, decides-and, decides-or, decides-not, decides-eqb, decided}
-use Rattle.relations.proofs.Laws.Lists.{among-decides, same-decides}
+use Rattle.base.proofs.Laws.Decides.{decides-true, decides-false, decides-as, decides-and, decides-or, decides-not, decides-eqb, decided}
+use Rattle.base.proofs.Laws.Members.{among-decides, same-decides, Some, some-decides}
 use Rattle.relations.proofs.Laws.Coefficients.{atLeast-decides}
 use Rattle.relations.proofs.Laws.Selectors.{contains-decides, sameSelector-decides}
-use Rattle.search.specs.Search.{Answer, found, none}
+use Rattle.search.specs.Search.{SearchResult, found, none}
 use Rattle.verdicts.specs.Verdicts.{verdictOn, isNone}
 use Rattle.verdicts.proofs.Laws.Verdicts.{verdicts}
-use Rattle.kinds.specs.Kinds.{IsRow, sourceRoot, destinationRoot, InternalLoop, OutOfPlace, Lacks, NonEnforceable, Inadequate, Rides, Superfluous, Filtered, LayerTwo, Answers, Asymmetric, Cyclic}
+use Rattle.kinds.specs.Meanings.{IsRow, sourceRoot, destinationRoot, InternalLoop, OutOfPlace, Lacks, NonEnforceable, Inadequate, Rides, Superfluous, Filtered, LayerTwo, Answers, Asymmetric, Cyclic}
 use Rattle.kinds.specs.Views.{placedAt}
-use Rattle.kinds.specs.Tests.{empty, internalLoop, outOfPlace, lacks, nonEnforceable, inadequate, rides, strictlyStronger, superfluous, filtered, layerTwo, answers, asymmetric, cyclic, dead}
-use Rattle.kinds.proofs.Laws.Lists.{Some, some-decides, inOrder-decides, twice-decides}
+use Rattle.kinds.specs.Tests.{empty, internalLoop, outOfPlace, lacks, nonEnforceable, inadequate, rides, strictlyStronger, superfluous, filters, filtered, layerTwo, answers, asymmetric, cyclic, dead}
+use Rattle.kinds.proofs.Laws.Lists.{inOrder-decides, twice-decides}
 use Rattle.kinds.proofs.Laws.Pairs.{selector-ordered}
 
 empty-decides : (l : List ℕ) → Decides (empty l) (l ≡ [])
 empty-decides [] = decides-true refl
 empty-decides (x ∷ l) = decides-false (λ e. let z : _≡_ {A = ℕ} 0 1 = cc in omega arith)
 
-isNone-decides : (a : Answer) → Decides (isNone a) (a ≡ none)
+isNone-decides : (a : SearchResult) → Decides (isNone a) (a ≡ none)
 isNone-decides none = decides-true refl
 isNone-decides (found p) = decides-false (λ e. let z : _≡_ {A = ℕ} 0 1 = cc in omega arith)
 
@@ -90,34 +89,13 @@ module _ (t : Table) (w : Wellformed t) where
         | inr s ↦ absurd (n (j, r .row, (r, s)))
       ]
 
-  -- A filter of the list, of a root in G, contains the row's selector.
-  abbrev FilteredBy : ℕ → List Filter → Type 0
-  FilteredBy i fs =
-      (k : ℕ) × (k < length fs)
-      × (List·Memᴰ (getD fs k noFilter .root) (rowAt t i .gateways) × Contains (getD fs k noFilter .selector) (rowAt t i .selector))
-
-  filtered-by : (i : ℕ) → IsRow t i → (fs : List Filter) → Decides (filtered fs (rowAt t i)) (FilteredBy i fs)
-  unfolding filtered
-  filtered-by i h [] = decides-false (λ e. let b = e .1 in absurd (omega arith))
-  filtered-by i h (f ∷ fs) =
-      decides-as
-      (λ s. elim s [ inl e ↦ (0, omega arith, e) | inr e ↦ (suc (e .0), omega (arith, e .1), e .2) ])
-      (λ e. split (e .0) (e .1) (e .2))
-      (decides-or _ _
-      (decides-and _ _ (among-decides (f .root) (rowAt t i .gateways)) (contains-decides (f .selector) (rowAt t i .selector) (selector-ordered t w i h)))
-      (filtered-by i h fs))
-    where
-      split : (k : ℕ) → k < length (f ∷ fs)
-          → List·Memᴰ (getD (f ∷ fs) k noFilter .root) (rowAt t i .gateways) × Contains (getD (f ∷ fs) k noFilter .selector) (rowAt t i .selector)
-          → (List·Memᴰ (f .root) (rowAt t i .gateways) × Contains (f .selector) (rowAt t i .selector)) ⊎ FilteredBy i fs
-      split zero b e = inl e
-      split (suc k) b e = inr (k, omega arith, e)
-
-  pub filtered-decides : (i : ℕ) → IsRow t i → Decides (filtered (t .filters) (rowAt t i)) (Filtered t i)
+  pub filtered-decides : (i : ℕ) → IsRow t i → Decides (filtered (λ k. getD (t .filters) k noFilter) (length (t .filters)) (rowAt t i)) (Filtered t i)
+  unfolding filtered filters
   filtered-decides i h =
       decides-as (λ e. record { filter = e .0; there = e .1; gateway = e .2 .0; contains = e .2 .1 })
       (λ e. (e .filter, e .there, (e .gateway, e .contains)))
-      (filtered-by i h (t .filters))
+      (some-decides (length (t .filters)) (λ k. filters (rowAt t i) (getD (t .filters) k noFilter))
+      (λ k b. decides-and _ _ (among-decides _ _) (contains-decides _ _ (selector-ordered t w i h))))
 
   pub layerTwo-decides : (i : ℕ) → Decides (layerTwo (rowAt t i)) (LayerTwo t i)
   unfolding layerTwo

@@ -11,9 +11,9 @@ use lib.Dec.{eqb}
 use lib.ListN.{length, getD, drop}
 use lib.Pow.{pow-mono, shr-shr}
 use lib.Seq.{drop-cons}
-use Rattle.search.specs.Views.{bit}
-use Rattle.search.proofs.Laws.Loops.{bit-le}
-use Rattle.listing.specs.Marks.{number, marked}
+use Rattle.base.specs.Truths.{bit}
+use Rattle.base.proofs.Laws.Passing.{bit-le}
+use Rattle.listing.specs.Marks.{bitsOf, marked}
 
 none-marked : (k : ℕ) → marked 0 k ≡ false
 unfolding marked
@@ -33,31 +33,31 @@ later-marked b n k =
     ap (λ (x : ℕ). (bit b + 2 * n) / (2 ^ x)) (sym (one-add k)) ∙ sym (shr-shr (bit b + 2 * n) 1 k) ∙ ap (λ (x : ℕ). x / (2 ^ k)) e in
     ap (λ (x : ℕ). eqb (x % 2) 1) s
 
-pub marked-number : (bs : List Bool) (k : ℕ) → marked (number bs) k ≡ getD bs k false
-unfolding number
-marked-number [] k = none-marked k
-marked-number (b ∷ bs) zero = first-marked b (number bs)
-marked-number (b ∷ bs) (suc k) = later-marked b (number bs) k ∙ marked-number bs k
+pub marked-bits : (bs : List Bool) (k : ℕ) → marked (bitsOf bs) k ≡ getD bs k false
+unfolding bitsOf
+marked-bits [] k = none-marked k
+marked-bits (b ∷ bs) zero = first-marked b (bitsOf bs)
+marked-bits (b ∷ bs) (suc k) = later-marked b (bitsOf bs) k ∙ marked-bits bs k
 
-pub number-end : (bs : List Bool) (k : ℕ) → length bs ≤ k → number (drop k bs) ≡ 0
-unfolding number
-number-end [] zero h = refl
-number-end [] (suc k) h = refl
-number-end (b ∷ bs) zero h = absurd (omega arith)
-number-end (b ∷ bs) (suc k) h = number-end bs k (omega arith)
+pub bits-end : (bs : List Bool) (k : ℕ) → length bs ≤ k → bitsOf (drop k bs) ≡ 0
+unfolding bitsOf
+bits-end [] zero h = refl
+bits-end [] (suc k) h = refl
+bits-end (b ∷ bs) zero h = absurd (omega arith)
+bits-end (b ∷ bs) (suc k) h = bits-end bs k (omega arith)
 
-pub number-next : (bs : List Bool) (k : ℕ) → k < length bs → number (drop k bs) ≡ 2 * number (drop (k + 1) bs) + bit (getD bs k false)
-unfolding number
-number-next bs k h = rw (add-one k, drop-cons bs k false h) (omega arith)
+pub bits-next : (bs : List Bool) (k : ℕ) → k < length bs → bitsOf (drop k bs) ≡ 2 * bitsOf (drop (k + 1) bs) + bit (getD bs k false)
+unfolding bitsOf
+bits-next bs k h = rw (add-one k, drop-cons bs k false h) (omega arith)
 
-number-below : (bs : List Bool) → number bs < 2 ^ length bs
-unfolding number
-number-below [] = omega (arith, pow-zero 2)
-number-below (b ∷ bs) =
-    let h = number-below bs in
+bits-below : (bs : List Bool) → bitsOf bs < 2 ^ length bs
+unfolding bitsOf
+bits-below [] = omega (arith, pow-zero 2)
+bits-below (b ∷ bs) =
+    let h = bits-below bs in
     let e = bit-le b in
     let p = pow-suc 2 (length bs) in
     omega arith
 
-pub number-small : (n : ℕ) (bs : List Bool) → length bs ≤ n → number bs < 2 ^ n
-number-small n bs h = lt-of-lt-of-le (number-below bs) (pow-mono h)
+pub bits-small : (n : ℕ) (bs : List Bool) → length bs ≤ n → bitsOf bs < 2 ^ n
+bits-small n bs h = lt-of-lt-of-le (bits-below bs) (pow-mono h)

@@ -7,12 +7,12 @@ use native.Mathlib.Numerals.{add-one}
 use native.Mathlib.Omega.{arith}
 use lib.ListN.{length, take, drop, length-append}
 use lib.Seq.{sets, sets-eq, take-append-seam}
-use Rattle.hex.proofs.Laws.Outputs.{fits-not, written-not, fits-all, written-copied}
-use Rattle.policy.proofs.Laws.Lists.{sets-append}
+use Rattle.base.proofs.Laws.Outputs.{fits-not, written-not, fits-all, written-copied}
+use Rattle.base.proofs.Laws.Lists.{sets-append}
 use Rattle.kinds.specs.Entries.{Entry, gather}
 use Rattle.kinds.proofs.Laws.Entries.{gather-next, gather-end}
-use Rattle.listing.specs.Bytes.{bytes, Put, Listing}
-use Rattle.listing.specs.declared.Listed.the-variants.{Count, Short}
+use Rattle.listing.specs.Bytes.{entryBytes, bytes, Room, Put, Listing}
+use Rattle.listing.specs.declared.Tally.the-variants.{Count, Short}
 
 pub bytes-none : bytes [] ≡ []
 unfolding bytes
@@ -22,7 +22,7 @@ pub bytes-more : (e : Entry) (es : List Entry) → bytes (e ∷ es) ≡ e .row �
 unfolding bytes
 bytes-more e es = refl
 
-pub length-bytes : (es : List Entry) → length (bytes es) ≡ 3 * length es
+pub length-bytes : (es : List Entry) → length (bytes es) ≡ entryBytes * length es
 unfolding bytes
 length-bytes [] = refl
 length-bytes (e ∷ es) = let h = length-bytes es in omega arith
@@ -40,34 +40,34 @@ pub put-then : {a b c : List ℕ} {n m k : ℕ} {es fs : List Entry} → Put a n
 put-then {a} {b} {c} {n} {m} {k} {es} {fs} p q =
     let h = length-bytes es in
     let d = p .count in
-    let e : 3 * m ≡ 3 * n + length (bytes es) = omega arith in
+    let e : entryBytes * m ≡ entryBytes * n + length (bytes es) = omega arith in
     record {
       stored =
           q .stored
-          ∙ ap (λ (l : List ℕ). sets l (3 * m) (bytes fs)) (p .stored)
-          ∙ ap (λ (j : ℕ). sets (sets a (3 * n) (bytes es)) j (bytes fs)) e
-          ∙ sym (ap (sets a (3 * n)) (bytes-append es fs) ∙ sets-append a (3 * n) (bytes es) (bytes fs));
+          ∙ ap (λ (l : List ℕ). sets l (entryBytes * m) (bytes fs)) (p .stored)
+          ∙ ap (λ (j : ℕ). sets (sets a (entryBytes * n) (bytes es)) j (bytes fs)) e
+          ∙ sym (ap (sets a (entryBytes * n)) (bytes-append es fs) ∙ sets-append a (entryBytes * n) (bytes es) (bytes fs));
       count = let f = length-append es fs in let g = q .count in omega arith;
     }
 
 -- Written from the start, they are the first bytes.
-pub put-first : {a b : List ℕ} {n : ℕ} {es : List Entry} → Put a 0 b n es → 3 * length es ≤ length a → take (3 * n) b ≡ bytes es
+pub put-first : {a b : List ℕ} {n : ℕ} {es : List Entry} → Put a 0 b n es → entryBytes * length es ≤ length a → take (entryBytes * n) b ≡ bytes es
 put-first {a} {b} {n} {es} p h =
     let l = length-bytes es in
     let c = p .count in
-    let e : 3 * n ≡ length (bytes es) = omega arith in
-    ap (take (3 * n)) (p .stored ∙ sets-eq (bytes es) a 0 (omega arith))
+    let e : entryBytes * n ≡ length (bytes es) = omega arith in
+    ap (take (entryBytes * n)) (p .stored ∙ sets-eq (bytes es) a 0 (omega arith))
     ∙ ap (λ (k : ℕ). take k (bytes es ++ drop (0 + length (bytes es)) a)) e
     ∙ take-append-seam (bytes es) (drop (0 + length (bytes es)) a)
 
 -- ---- the caller's buffer
 
-pub listing-short : (es : List Entry) (out : List ℕ) → length out < 3 * length es → Listing es out out Short
+pub listing-short : (es : List Entry) (out : List ℕ) → length out < entryBytes * length es → Listing es out out Short
 listing-short es out h =
     let l : length out < length (bytes es) = omega (arith, length-bytes es) in
     record { buffer = written-not (bytes es) out l; result = rw (fits-not (bytes es) out l) refl }
 
-pub listing-whole : (es : List Entry) (out from after : List ℕ) (n : ℕ) → 3 * length es ≤ length out → n ≡ length es → from ≡ bytes es
+pub listing-whole : (es : List Entry) (out from after : List ℕ) (n : ℕ) → entryBytes * length es ≤ length out → n ≡ length es → from ≡ bytes es
     → after ≡ take (length from) from ++ drop (length from) out → Listing es out after (Count n)
 listing-whole es out from after n h c e a =
     let l : length (bytes es) ≤ length out = omega (arith, length-bytes es) in
@@ -95,7 +95,7 @@ module _ (f : ℕ → List Entry) (last : ℕ) where
       ap (λ (n : ℕ). gather n k f) e ∙ gather-next f (last - (k + 1)) k ∙ ap (λ (j : ℕ). f k ++ gather (last - (k + 1)) j f) (sym (add-one k))
 
   module _ {before after : List ℕ} {n m : ℕ} {whole : List Entry} (k : ℕ) where
-    pub from-room : k < last → Going before n after m whole (from k) → n + length whole ≤ 12800 → m + length (f k) ≤ 12800
+    pub from-room : k < last → Going before n after m whole (from k) → Room n whole → Room m (f k)
     from-room h g r =
         let g' : Going before n after m whole (f k ++ from (k + 1)) = rw (begun k h) at g in
         let e = ap length (g' .rest) in

@@ -1,127 +1,117 @@
--- Laws of a list that is given by what stands at each place: its length, what stands at a place, that it goes by its places
--- alone, one place more, and that a list is such a list of its own elements. Laws of what stands at a place: that below the
--- length it does not go by the default, of a thing that is repeated, after a store at the place that follows those filled, and after a run
--- of stores, outside the run and in it. Two runs of stores, one after the other. A map, and the first of a list, place by place.
+-- Laws of the entities, filters and rows that a table's runs hold: how many rows there are, and the row at a place; one more after a write
+-- (`..-grown`), and all as they were after a write that is not theirs (`..-kept`). The rows' selectors stand first, the filters' after them.
 -- Assumes nothing.
-use mathlib.Core.Path.{_≡_, refl, sym, ap, subst, _∙_}
-use mathlib.Core.List.{List, [], _∷_, _++_, map}
-use Prim.Native.Nat.{ℕ, zero, suc, _+_, _≤_, _<_}
-use native.Mathlib.Nat.{add-zero}
-use native.Mathlib.Numerals.{add-one}
-use native.Mathlib.Decide.{decLt}
+use mathlib.Core.Path.{_≡_}
+use mathlib.Core.List.{List, [], _∷_, _++_}
+use Prim.Native.Nat.{ℕ, _+_, _*_, _≤_, _<_}
 use native.Mathlib.Omega.{arith}
-use lib.ListN.{length, getD, take, set, replicate, length-set}
-use lib.Seq.{sets, length-take-le, getD-take, getD-set-same, getD-set-other}
-use Rattle.policy.specs.Lists.{tabulateFrom, tabulate}
+use lib.ListN.{length, getD, set}
+use lib.Seq.{getD-set-same, getD-set-other}
+use Rattle.base.specs.Lists.{tabulate}
+use Rattle.base.proofs.Laws.Lists.{length-tabulate, getD-tabulate, tabulate-same, tabulate-grown}
+use Rattle.policy.specs.Limits.{mostRows, fieldCount, headCount, boundCount}
+use Rattle.policy.specs.Model.{Entity, Selector, Filter, noRow}
+use Rattle.policy.specs.Views.{entityIn, filterIn, rowFrom, rowIn, rowsIn, rangeIn, selectorIn}
+use Rattle.policy.specs.Writes.{putSelector, putHead}
+use Rattle.policy.proofs.Laws.Runs.{numbers-there, numbers-elsewhere, selector-there, selector-elsewhere}
 
-module _ {A : Type 0} where
-  length-from : (f : ℕ → A) (i n : ℕ) → length (tabulateFrom f i n) ≡ n
-  length-from f i zero = refl
-  length-from f i (suc n) = ap suc (length-from f (suc i) n)
+-- ---- the rows
 
-  pub length-tabulate : (f : ℕ → A) (n : ℕ) → length (tabulate f n) ≡ n
-  length-tabulate f n = length-from f 0 n
+module _ (heads bounds : List ℕ) (n : ℕ) where
+  pub length-rows : length (rowsIn heads bounds n) ≡ n
+  length-rows = length-tabulate (rowIn heads bounds) n
 
-  getD-from : (f : ℕ → A) (i n k : ℕ) (d : A) → k < n → getD (tabulateFrom f i n) k d ≡ f (i + k)
-  getD-from f i zero k d h = absurd (omega arith)
-  getD-from f i (suc n) zero d h = rw add-zero
-  getD-from f i (suc n) (suc k) d h =
-      let e : suc i + k ≡ i + suc k = omega arith in
-      getD-from f (suc i) n k d (omega arith) ∙ ap f e
+  pub row-of-rows : (i : ℕ) → i < n → getD (rowsIn heads bounds n) i noRow ≡ rowIn heads bounds i
+  row-of-rows i h = getD-tabulate (rowIn heads bounds) n i noRow h
 
-  pub getD-tabulate : (f : ℕ → A) (n k : ℕ) (d : A) → k < n → getD (tabulate f n) k d ≡ f k
-  getD-tabulate f n k d h = let e : 0 + k ≡ k = omega arith in getD-from f 0 n k d h ∙ ap f e
+-- ---- after the write of a selector
 
-  from-same : (f g : ℕ → A) (i n : ℕ) → ((k : ℕ) → i ≤ k → k < i + n → f k ≡ g k) → tabulateFrom f i n ≡ tabulateFrom g i n
-  from-same f g i zero h = refl
-  from-same f g i (suc n) h =
-      rw (h i (omega arith) (omega arith))
-      (ap (λ l. g i ∷ l) (from-same f g (suc i) n (λ k a b. h k (omega arith) (omega arith))))
+module _ (bounds : List ℕ) (k : ℕ) (s : Selector) (all : length s ≡ fieldCount) where
+  selector-read : boundCount * k + boundCount ≤ length bounds → selectorIn (putSelector bounds k s) k ≡ s
+  unfolding rangeIn
+  selector-read h = selector-there fieldCount bounds k s all (omega arith)
 
-  pub tabulate-same : (f g : ℕ → A) (n : ℕ) → ((k : ℕ) → k < n → f k ≡ g k) → tabulate f n ≡ tabulate g n
-  tabulate-same f g n h = from-same f g 0 n (λ k a b. h k (omega arith))
+  selector-stays : (j : ℕ) → (j ≡ k → ⊥) → selectorIn (putSelector bounds k s) j ≡ selectorIn bounds j
+  unfolding rangeIn
+  selector-stays j h = selector-elsewhere fieldCount bounds k s all j h
 
-  from-more : (f : ℕ → A) (i n : ℕ) → tabulateFrom f i (suc n) ≡ tabulateFrom f i n ++ (f (i + n) ∷ [])
-  from-more f i zero = rw add-zero
-  from-more f i (suc n) =
-      let e : suc i + n ≡ i + suc n = omega arith in
-      ap (λ l. f i ∷ l) (from-more f (suc i) n ∙ ap (λ k. tabulateFrom f (suc i) n ++ (f k ∷ [])) e)
+  pub filters-kept : (roots : List ℕ) (n : ℕ) → k < mostRows → tabulate (filterIn roots (putSelector bounds k s)) n ≡ tabulate (filterIn roots bounds) n
+  filters-kept roots n h =
+      tabulate-same (filterIn roots (putSelector bounds k s)) (filterIn roots bounds) n
+      (λ j b. rw (selector-stays (mostRows + j) (λ q. omega arith)))
 
-  pub tabulate-more : (f : ℕ → A) (n : ℕ) → tabulate f (suc n) ≡ tabulate f n ++ (f n ∷ [])
-  tabulate-more f n =
-      let e : 0 + n ≡ n = omega arith in
-      from-more f 0 n ∙ ap (λ k. tabulate f n ++ (f k ∷ [])) e
+  pub rows-kept : (heads : List ℕ) (n : ℕ) → n ≤ k → rowsIn heads (putSelector bounds k s) n ≡ rowsIn heads bounds n
+  rows-kept heads n h =
+      tabulate-same (rowIn heads (putSelector bounds k s)) (rowIn heads bounds) n
+      (λ j b. rw (selector-stays j (λ q. omega arith)))
 
-  -- one place more, where the places before it may be given in another way
-  pub tabulate-grown : (f g : ℕ → A) (n : ℕ) (x : A) → ((k : ℕ) → k < n → f k ≡ g k) → f n ≡ x → tabulate f (n + 1) ≡ tabulate g n ++ (x ∷ [])
-  tabulate-grown f g n x h e = rw (add-one, tabulate-more, tabulate-same f g n h, e)
+-- ---- one more
 
-  from-list : (f : ℕ → A) (i : ℕ) (l : List A) (d : A) → ((k : ℕ) → k < length l → f (i + k) ≡ getD l k d) → tabulateFrom f i (length l) ≡ l
-  from-list f i [] d h = refl
-  from-list f i (x ∷ l) d h =
-      let e : f i ≡ x = ap f (sym (add-zero i)) ∙ h 0 (omega arith) in
-      rw e
-      (ap (λ m. x ∷ m)
-      (from-list f (suc i) l d
-      (λ k b. let j : suc i + k ≡ i + suc k = omega arith in ap f j ∙ h (suc k) (omega arith))))
+pub entities-grown :
+    (parents layers masks : List ℕ)
+    (n : ℕ)
+    (e : Entity) →
+    n < length parents →
+    n < length layers →
+    n < length masks →
+    tabulate (entityIn (set parents n (e .parent)) (set layers n (e .layer)) (set masks n (e .mask))) (n + 1)
+    ≡ tabulate (entityIn parents layers masks) n ++ (e ∷ [])
+entities-grown parents layers masks n e p l m =
+    tabulate-grown
+    (entityIn (set parents n (e .parent)) (set layers n (e .layer)) (set masks n (e .mask)))
+    (entityIn parents layers masks)
+    n
+    e
+    (λ k b. let h : k ≡ n → ⊥ = λ q. omega arith in simp (getD-set-other, h))
+    (simp (getD-set-same, p, l, m))
 
-  pub tabulate-list : (f : ℕ → A) (l : List A) (d : A) → ((k : ℕ) → k < length l → f k ≡ getD l k d) → tabulate f (length l) ≡ l
-  tabulate-list f l d h = from-list f 0 l d (λ k b. let e : 0 + k ≡ k = omega arith in ap f e ∙ h k b)
+pub filters-grown :
+    (roots bounds : List ℕ)
+    (n : ℕ)
+    (f : Filter) →
+    n < length roots →
+    length (f .selector) ≡ fieldCount →
+    boundCount * (mostRows + n) + boundCount ≤ length bounds →
+    tabulate (filterIn (set roots n (f .root)) (putSelector bounds (mostRows + n) (f .selector))) (n + 1)
+    ≡ tabulate (filterIn roots bounds) n ++ (f ∷ [])
+filters-grown roots bounds n f r all h =
+    tabulate-grown
+    (filterIn (set roots n (f .root)) (putSelector bounds (mostRows + n) (f .selector)))
+    (filterIn roots bounds)
+    n
+    f
+    (λ k b.
+    rw (
+      getD-set-other roots n k (f .root) 0 (λ q. omega arith),
+      selector-stays bounds (mostRows + n) (f .selector) all (mostRows + k) (λ q. omega arith),
+    ))
+    (rw (
+      getD-set-same roots n (f .root) 0 r,
+      selector-read bounds (mostRows + n) (f .selector) all h,
+    ))
 
-  -- the same, where the list's length is known by an equation
-  pub tabulate-counted : (f : ℕ → A) (n : ℕ) (l : List A) (d : A) → length l ≡ n → ((k : ℕ) → k < n → f k ≡ getD l k d) → tabulate f n ≡ l
-  tabulate-counted f n l d e h = subst (λ m. tabulate f m ≡ l) e (tabulate-list f l d (λ k b. h k (omega arith)))
-
-  -- ---- what stands at a place
-
-  pub getD-default : (l : List A) (k : ℕ) (d e : A) → k < length l → getD l k d ≡ getD l k e
-  getD-default [] k d e h = absurd (omega arith)
-  getD-default (x ∷ l) zero d e h = refl
-  getD-default (x ∷ l) (suc k) d e h = getD-default l k d e (omega arith)
-
-  -- the default is what is repeated, so that it stands past the end too
-  pub getD-replicated : (n : ℕ) (a : A) (k : ℕ) → getD (replicate n a) k a ≡ a
-  getD-replicated zero a k = refl
-  getD-replicated (suc n) a zero = refl
-  getD-replicated (suc n) a (suc k) = getD-replicated n a k
-
-  -- At the first n places stands what f says; then it does at one place more.
-  pub filled-more : (d : A) (f : ℕ → A) (l : List A) (n : ℕ) (x : A) → n < length l → ((k : ℕ) → k < n → getD l k d ≡ f k) → x ≡ f n
-      → (k : ℕ) → k < n + 1 → getD (set l n x) k d ≡ f k
-  filled-more d f l n x h filled e k b =
-      elim (decLt k n) [
-        | yes m ↦ getD-set-other l n k x d (λ q. absurd (omega arith)) ∙ filled k m
-        | no m ↦ let q : k ≡ n = omega arith in rw q (getD-set-same l n x d h ∙ e)
-      ]
-
-  pub sets-append : (l : List A) (i : ℕ) (vs ws : List A) → sets l i (vs ++ ws) ≡ sets (sets l i vs) (i + length vs) ws
-  sets-append l i [] ws = let e : i + 0 ≡ i = omega arith in ap (λ (k : ℕ). sets l k ws) (sym e)
-  sets-append l i (v ∷ vs) ws =
-      let e : suc i + length vs ≡ i + suc (length vs) = omega arith in
-      sets-append (set l i v) (suc i) vs ws ∙ ap (λ (k : ℕ). sets (sets (set l i v) (suc i) vs) k ws) e
-
-  pub getD-sets-outside : (l : List A) (i : ℕ) (vs : List A) (k : ℕ) (d : A) → ((c : ℕ) → c < length vs → k ≡ i + c → ⊥) → getD (sets l i vs) k d ≡ getD l k d
-  getD-sets-outside l i [] k d h = refl
-  getD-sets-outside l i (a ∷ vs) k d h =
-      getD-sets-outside (set l i a) (suc i) vs k d (λ c b e. h (suc c) (omega arith) (omega arith))
-      ∙ getD-set-other l i k a d (λ e. h 0 (omega arith) (omega arith))
-
-  pub getD-sets-inside : (l : List A) (i : ℕ) (vs : List A) (c : ℕ) (d : A) → i + length vs ≤ length l → c < length vs → getD (sets l i vs) (i + c) d ≡ getD vs c d
-  getD-sets-inside l i [] c d h b = absurd (omega arith)
-  getD-sets-inside l i (a ∷ vs) zero d h b =
-      rw (add-zero, getD-sets-outside (set l i a) (suc i) vs i d (λ c b e. omega arith)) (getD-set-same l i a d (omega arith))
-  getD-sets-inside l i (a ∷ vs) (suc c) d h b =
-      let e : i + suc c ≡ suc i + c = omega arith in
-      rw e (getD-sets-inside (set l i a) (suc i) vs c d (omega (arith, length-set l i a)) (omega arith))
-
-module _ {A B : Type 0} where
-  map-from : (g : A → B) (f : ℕ → A) (i n : ℕ) → map g (tabulateFrom f i n) ≡ tabulateFrom (λ k. g (f k)) i n
-  map-from g f i zero = refl
-  map-from g f i (suc n) = ap (λ l. g (f i) ∷ l) (map-from g f (suc i) n)
-
-  pub map-tabulate : (g : A → B) (f : ℕ → A) (n : ℕ) → map g (tabulate f n) ≡ tabulate (λ k. g (f k)) n
-  map-tabulate g f n = map-from g f 0 n
-
-pub tabulate-take : (l : List ℕ) (n : ℕ) → n ≤ length l → tabulate (λ k. getD l k 0) n ≡ take n l
-tabulate-take l n h =
-    tabulate-counted (λ k. getD l k 0) n (take n l) 0 (length-take-le n l h) (λ k b. sym (getD-take n l k 0 b))
+pub rows-grown :
+    (heads bounds : List ℕ)
+    (n : ℕ)
+    (head : List ℕ)
+    (s : Selector) →
+    length head ≡ headCount →
+    headCount * n + headCount ≤ length heads →
+    length s ≡ fieldCount →
+    boundCount * n + boundCount ≤ length bounds →
+    rowsIn (putHead heads n head) (putSelector bounds n s) (n + 1) ≡ rowsIn heads bounds n ++ (rowFrom head s ∷ [])
+rows-grown heads bounds n head s whole h all b =
+    tabulate-grown
+    (rowIn (putHead heads n head) (putSelector bounds n s))
+    (rowIn heads bounds)
+    n
+    (rowFrom head s)
+    (λ k b.
+    rw (
+      numbers-elsewhere headCount heads n head whole k (λ q. omega arith),
+      selector-stays bounds n s all k (λ q. omega arith),
+    ))
+    (rw (
+      numbers-there headCount heads n head whole (omega arith),
+      selector-read bounds n s all b,
+    ))

@@ -1,150 +1,107 @@
--- Laws of a table's runs of numbers; those of the rows' bytes are in Heads.antt. Of a range, of a selector's fields and of a
--- selector: what was written is read at its place (`..-there`), and what stands at another stays (`..-elsewhere`). Of the rows:
--- how many there are, and the row at a place. Of entities, filters and rows: one more after a write (`..-grown`), and all as they
--- were after a write that is not theirs (`..-kept`).
+-- Laws of runs of numbers, things of so many numbers one after another: what was written is read at its place (`..-there`), and what
+-- stands at another stays (`..-elsewhere`). Of a range and of ranges from a place on; of a selector with any number of fields; of a thing
+-- with any number of numbers. Those of a table's entities, filters and rows are in Lists.antt.
 -- Assumes nothing.
 use mathlib.Core.Path.{_≡_, refl, _∙_}
-use mathlib.Core.List.{List, [], _∷_, _++_}
+use mathlib.Core.List.{List, [], _∷_}
 use Prim.Native.Nat.{ℕ, zero, suc, _+_, _*_, _≤_, _<_}
-use native.Mathlib.Nat.{add-zero, zero-add}
+use native.Mathlib.Nat.{add-zero, zero-add, mul-suc, mul-le-mul-left}
+use native.Mathlib.Decide.{decLt}
 use native.Mathlib.Omega.{arith}
 use lib.ListN.{length, getD, set, length-set}
-use lib.Seq.{getD-set-same, getD-set-other}
-use Rattle.policy.specs.Lists.{tabulate}
-use Rattle.policy.specs.Model.{Entity, Range, Selector, Filter, noRange, noRow}
-use Rattle.policy.specs.Views.{entityIn, rangeIn, selectorIn, filterIn, rowIn, rowsIn}
-use Rattle.policy.specs.Writes.{putRange, putFields}
-use Rattle.policy.proofs.Laws.Lists.{length-tabulate, getD-tabulate, tabulate-same, tabulate-counted, tabulate-grown}
+use lib.Seq.{sets, getD-set-same, getD-set-other}
+use Rattle.base.proofs.Laws.Lists.{tabulate-same, tabulate-counted, getD-sets-inside, getD-sets-outside}
+use Rattle.policy.specs.Model.{Range, Selector, noRange}
+use Rattle.policy.specs.Views.{rangeAt, selectorAt, numbersAt}
+use Rattle.policy.specs.Writes.{putRange, putRanges}
+
+-- ---- things of n numbers each
+
+-- The numbers of an earlier thing come before those of a later one.
+before : (n j k x y : ℕ) → j < k → x < n → n * j + x ≡ n * k + y → ⊥
+before n j k x y h b e =
+    let m : n * suc j ≤ n * k = mul-le-mul-left n (omega arith) in
+    omega (arith, mul-suc n j)
+
+-- Those of two things are apart.
+pub apart : (n j k x y : ℕ) → (j ≡ k → ⊥) → x < n → y < n → n * j + x ≡ n * k + y → ⊥
+apart n j k x y h a b e =
+    elim (decLt j k) [
+      | yes l ↦ before n j k x y l a e
+      | no l ↦ elim (decLt k j) [ yes m ↦ before n k j y x m b (omega arith) | no m ↦ h (omega arith) ]
+    ]
+
+module _ (n : ℕ) (run : List ℕ) (i : ℕ) (vs : List ℕ) (all : length vs ≡ n) where
+  pub numbers-there : n * i + n ≤ length run → numbersAt n (sets run (n * i) vs) i ≡ vs
+  unfolding numbersAt
+  numbers-there h =
+      tabulate-counted (λ c. getD (sets run (n * i) vs) (n * i + c) 0) n vs 0 all
+      (λ c b. getD-sets-inside run (n * i) vs c 0 (omega arith) (omega arith))
+
+  pub numbers-elsewhere : (j : ℕ) → (j ≡ i → ⊥) → numbersAt n (sets run (n * i) vs) j ≡ numbersAt n run j
+  unfolding numbersAt
+  numbers-elsewhere j h =
+      tabulate-same (λ c. getD (sets run (n * i) vs) (n * j + c) 0) (λ c. getD run (n * j + c) 0) n
+      (λ c b. getD-sets-outside run (n * i) vs (n * j + c) 0 (λ d a e. apart n j i c d h b (omega arith) e))
 
 -- ---- a range
 
-module _ (bounds : List ℕ) (k f : ℕ) (r : Range) where
-  length-range : length (putRange bounds k f r) ≡ length bounds
+module _ (bounds : List ℕ) (m : ℕ) (r : Range) where
+  length-range : length (putRange bounds m r) ≡ length bounds
   unfolding putRange
   length-range = simp length-set
 
-  pub range-there : 10 * k + 2 * f + 2 ≤ length bounds → rangeIn (putRange bounds k f r) k f ≡ r
-  unfolding putRange rangeIn
+  range-there : 2 * m + 2 ≤ length bounds → rangeAt (putRange bounds m r) m ≡ r
+  unfolding putRange rangeAt
   range-there h =
-      let at = 10 * k + 2 * f in
-      let more = set bounds at (r .low) in
+      let more = set bounds (2 * m) (r .low) in
       rw (
-        getD-set-same more (at + 1) (r .high) 0 (omega (arith, length-set bounds at (r .low))),
-        getD-set-other more (at + 1) at (r .high) 0 (λ e. omega arith),
-        getD-set-same bounds at (r .low) 0 (omega arith),
+        getD-set-same more (2 * m + 1) (r .high) 0 (omega (arith, length-set bounds (2 * m) (r .low))),
+        getD-set-other more (2 * m + 1) (2 * m) (r .high) 0 (λ e. omega arith),
+        getD-set-same bounds (2 * m) (r .low) 0 (omega arith),
       )
 
-  pub range-elsewhere : (j g : ℕ) → (10 * j + 2 * g ≡ 10 * k + 2 * f → ⊥) → rangeIn (putRange bounds k f r) j g ≡ rangeIn bounds j g
-  unfolding putRange rangeIn
-  range-elsewhere j g h =
+  range-elsewhere : (j : ℕ) → (j ≡ m → ⊥) → rangeAt (putRange bounds m r) j ≡ rangeAt bounds j
+  unfolding putRange rangeAt
+  range-elsewhere j h =
       rw (
-        stays (10 * j + 2 * g) h (λ e. omega arith),
-        stays (10 * j + 2 * g + 1) (λ e. omega arith) (λ e. h (omega arith)),
+        stays (2 * j) (λ e. h (omega arith)) (λ e. omega arith),
+        stays (2 * j + 1) (λ e. omega arith) (λ e. h (omega arith)),
       )
     where
-      stays : (x : ℕ) → (x ≡ 10 * k + 2 * f → ⊥) → (x ≡ 10 * k + 2 * f + 1 → ⊥) → getD (putRange bounds k f r) x 0 ≡ getD bounds x 0
+      stays : (x : ℕ) → (x ≡ 2 * m → ⊥) → (x ≡ 2 * m + 1 → ⊥) → getD (putRange bounds m r) x 0 ≡ getD bounds x 0
       stays x p q = simp (getD-set-other, p, q)
 
--- ---- the fields of a selector from f on, any number of them
+-- ---- ranges from m + f on, any number of them
 
-pub fields-elsewhere :
-    (s : Selector)
-    (bounds : List ℕ)
-    (k f j g : ℕ) →
-    ((e : ℕ) → f ≤ e → e < f + length s → 10 * j + 2 * g ≡ 10 * k + 2 * e → ⊥) →
-    rangeIn (putFields bounds k f s) j g ≡ rangeIn bounds j g
-unfolding putFields
-fields-elsewhere [] bounds k f j g h = refl
-fields-elsewhere (r ∷ s) bounds k f j g h =
-    fields-elsewhere s (putRange bounds k f r) k (suc f) j g (λ e a b. h e (omega arith) (omega arith))
-    ∙ range-elsewhere bounds k f r j g (h f (omega arith) (omega arith))
+ranges-elsewhere : (s : Selector) (bounds : List ℕ) (m f j : ℕ) → ((e : ℕ) → f ≤ e → e < f + length s → j ≡ m + e → ⊥)
+    → rangeAt (putRanges bounds m f s) j ≡ rangeAt bounds j
+unfolding putRanges
+ranges-elsewhere [] bounds m f j h = refl
+ranges-elsewhere (r ∷ s) bounds m f j h =
+    ranges-elsewhere s (putRange bounds (m + f) r) m (suc f) j (λ e a b. h e (omega arith) (omega arith))
+    ∙ range-elsewhere bounds (m + f) r j (h f (omega arith) (omega arith))
 
-pub fields-there :
-    (s : Selector)
-    (bounds : List ℕ)
-    (k f g : ℕ) →
-    10 * k + 2 * (f + length s) ≤ length bounds →
-    g < length s →
-    rangeIn (putFields bounds k f s) k (f + g) ≡ getD s g noRange
-unfolding putFields
-fields-there [] bounds k f g h b = absurd (omega arith)
-fields-there (r ∷ s) bounds k f zero h b =
-    rw (add-zero, fields-elsewhere s (putRange bounds k f r) k (suc f) k f (λ e a b. omega arith))
-    (range-there bounds k f r (omega arith))
-fields-there (r ∷ s) bounds k f (suc g) h b =
+ranges-there : (s : Selector) (bounds : List ℕ) (m f g : ℕ) → 2 * (m + f + length s) ≤ length bounds → g < length s
+    → rangeAt (putRanges bounds m f s) (m + (f + g)) ≡ getD s g noRange
+unfolding putRanges
+ranges-there [] bounds m f g h b = absurd (omega arith)
+ranges-there (r ∷ s) bounds m f zero h b =
+    rw (add-zero, ranges-elsewhere s (putRange bounds (m + f) r) m (suc f) (m + f) (λ e a b q. omega arith))
+    (range-there bounds (m + f) r (omega arith))
+ranges-there (r ∷ s) bounds m f (suc g) h b =
     let e : f + suc g ≡ suc f + g = omega arith in
-    rw e (fields-there s (putRange bounds k f r) k (suc f) g (omega (arith, length-range bounds k f r)) (omega arith))
+    rw e (ranges-there s (putRange bounds (m + f) r) m (suc f) g (omega (arith, length-range bounds (m + f) r)) (omega arith))
 
--- ---- a selector; the filters' stand from the 64th on, the rows' before it
+-- ---- a selector of n fields
 
-module _ (bounds : List ℕ) (k : ℕ) (s : Selector) (five : length s ≡ 5) where
-  pub selector-there : 10 * k + 10 ≤ length bounds → selectorIn (putFields bounds k 0 s) k ≡ s
+module _ (n : ℕ) (bounds : List ℕ) (k : ℕ) (s : Selector) (all : length s ≡ n) where
+  pub selector-there : 2 * (n * k + n) ≤ length bounds → selectorAt n (putRanges bounds (n * k) 0 s) k ≡ s
   selector-there h =
-      tabulate-counted (rangeIn (putFields bounds k 0 s) k) 5 s noRange five
-      (λ g b. rw zero-add at (fields-there s bounds k 0 g (omega arith) (omega arith)))
+      tabulate-counted (λ f. rangeAt (putRanges bounds (n * k) 0 s) (n * k + f)) n s noRange all
+      (λ g b. rw zero-add at (ranges-there s bounds (n * k) 0 g (omega arith) (omega arith)))
 
-  pub selector-elsewhere : (j : ℕ) → (j ≡ k → ⊥) → selectorIn (putFields bounds k 0 s) j ≡ selectorIn bounds j
+  pub selector-elsewhere : (j : ℕ) → (j ≡ k → ⊥) → selectorAt n (putRanges bounds (n * k) 0 s) j ≡ selectorAt n bounds j
   selector-elsewhere j h =
-      tabulate-same (rangeIn (putFields bounds k 0 s) j) (rangeIn bounds j) 5
-      (λ g b. fields-elsewhere s bounds k 0 j g (λ e a c d. h (omega arith)))
-
-  pub filters-kept : (roots : List ℕ) (n : ℕ) → k < 64 → tabulate (filterIn roots (putFields bounds k 0 s)) n ≡ tabulate (filterIn roots bounds) n
-  filters-kept roots n h =
-      tabulate-same (filterIn roots (putFields bounds k 0 s)) (filterIn roots bounds) n
-      (λ j b. rw (selector-elsewhere (64 + j) (λ q. omega arith)))
-
-  pub rows-kept : (heads : List ℕ) (n : ℕ) → n ≤ k → rowsIn heads (putFields bounds k 0 s) n ≡ rowsIn heads bounds n
-  rows-kept heads n h =
-      tabulate-same (rowIn heads (putFields bounds k 0 s)) (rowIn heads bounds) n
-      (λ j b. rw (selector-elsewhere j (λ q. omega arith)))
-
--- ---- the rows
-
-module _ (heads bounds : List ℕ) (n : ℕ) where
-  pub length-rows : length (rowsIn heads bounds n) ≡ n
-  length-rows = length-tabulate (rowIn heads bounds) n
-
-  pub row-of-rows : (i : ℕ) → i < n → getD (rowsIn heads bounds n) i noRow ≡ rowIn heads bounds i
-  row-of-rows i h = getD-tabulate (rowIn heads bounds) n i noRow h
-
--- ---- one more
-
-pub entities-grown :
-    (parents layers masks : List ℕ)
-    (n : ℕ)
-    (e : Entity) →
-    n < length parents →
-    n < length layers →
-    n < length masks →
-    tabulate (entityIn (set parents n (e .parent)) (set layers n (e .layer)) (set masks n (e .mask))) (n + 1)
-    ≡ tabulate (entityIn parents layers masks) n ++ (e ∷ [])
-entities-grown parents layers masks n e p l m =
-    tabulate-grown
-    (entityIn (set parents n (e .parent)) (set layers n (e .layer)) (set masks n (e .mask)))
-    (entityIn parents layers masks)
-    n
-    e
-    (λ k b. let h : k ≡ n → ⊥ = λ q. omega arith in simp (getD-set-other, h))
-    (simp (getD-set-same, p, l, m))
-
-pub filters-grown :
-    (roots bounds : List ℕ)
-    (n : ℕ)
-    (f : Filter) →
-    n < length roots →
-    length (f .selector) ≡ 5 →
-    10 * (64 + n) + 10 ≤ length bounds →
-    tabulate (filterIn (set roots n (f .root)) (putFields bounds (64 + n) 0 (f .selector))) (n + 1)
-    ≡ tabulate (filterIn roots bounds) n ++ (f ∷ [])
-filters-grown roots bounds n f r five h =
-    tabulate-grown
-    (filterIn (set roots n (f .root)) (putFields bounds (64 + n) 0 (f .selector)))
-    (filterIn roots bounds)
-    n
-    f
-    (λ k b.
-    rw (
-      getD-set-other roots n k (f .root) 0 (λ q. omega arith),
-      selector-elsewhere bounds (64 + n) (f .selector) five (64 + k) (λ q. omega arith),
-    ))
-    (rw (getD-set-same roots n (f .root) 0 r, selector-there bounds (64 + n) (f .selector) five h))
+      tabulate-same (λ f. rangeAt (putRanges bounds (n * k) 0 s) (n * j + f)) (λ f. rangeAt bounds (n * j + f)) n
+      (λ g b. ranges-elsewhere s bounds (n * k) 0 (n * j + g) (λ e a c q. apart n j k g e h b (omega arith) q))

@@ -4,7 +4,7 @@
 use mathlib.Core.Path.{_≡_, refl, sym, ap, fun-ext, _∙_}
 use mathlib.Core.Logic.{⊎-elim}
 use mathlib.Core.List.{List, [], _∷_, map}
-use Prim.Native.Nat.{ℕ, suc, _≤_, _<_}
+use Prim.Native.Nat.{ℕ, suc, _*_, _≤_, _<_}
 use native.Mathlib.Decide.{decLt}
 use native.Mathlib.Omega.{arith}
 use borrow.Author.Needs.{needs}
@@ -13,13 +13,14 @@ use denote.Struct.Declared.{row}
 use denote.Struct.Laws.{val}
 use lib.ListN.{length, getD, take, length-map, List·getD-eq-default}
 use lib.Seq.{length-take-le}
+use Rattle.policy.specs.Limits.{mostEntities, technologies, mostFilters, mostRows, mostGateways, mostSelectors, fieldCount, headCount, boundCount}
 use Rattle.policy.specs.Model.{Selector, Table, noParent, noEntity, entityAt, parentOf, parentsOf, layersOf}
 use Rattle.policy.specs.Views.{coefficientsOf, parentIn, entityIn, filterIn, tableOf, Held}
 use Rattle.policy.specs.Wellformed.{Fits, widths, SelectorRule, Wellformed}
 use Rattle.policy.specs.declared.row.Row.{Row as RowStruct}
 use Rattle.policy.specs.declared.table.Table.{Table as TableStruct}
-use Rattle.policy.proofs.Laws.Lists.{getD-default, length-tabulate, getD-tabulate, map-tabulate, tabulate-take}
-use Rattle.policy.proofs.Laws.Runs.{length-rows}
+use Rattle.base.proofs.Laws.Lists.{getD-default, length-tabulate, getD-tabulate, map-tabulate, tabulate-take}
+use Rattle.policy.proofs.Laws.Lists.{length-rows}
 use Rattle.policy.proofs.row.Row.{the-type as row-type}
 use Rattle.policy.proofs.row.Row.Laws.{the-laws as row-laws}
 use Rattle.policy.proofs.table.Table.{the-type}
@@ -29,13 +30,13 @@ use Rattle.policy.proofs.table.Table.Laws.{the-laws}
 
 -- The arrays have their lengths.
 pub record Sized (t : TableStruct) : Type 0 where
-  pub parents : length (t .parents) ≡ 128
-  pub layers : length (t .layers) ≡ 128
-  pub masks : length (t .masks) ≡ 128
-  pub caps : length (t .caps) ≡ 6
-  pub filter-roots : length (t .«filter_roots») ≡ 32
-  pub heads : length (t .heads) ≡ 1024
-  pub bounds : length (t .bounds) ≡ 960
+  pub parents : length (t .parents) ≡ mostEntities
+  pub layers : length (t .layers) ≡ mostEntities
+  pub masks : length (t .masks) ≡ mostEntities
+  pub caps : length (t .caps) ≡ technologies
+  pub filter-roots : length (t .«filter_roots») ≡ mostFilters
+  pub heads : length (t .heads) ≡ headCount * mostRows
+  pub bounds : length (t .bounds) ≡ boundCount * mostSelectors
 
 -- owning an array of structs tells the length of the list of what their records are taken to
 length-mapped : {X Y : Type 0} (f : X → Y) (l : List X) (n : ℕ) → length (map f l) ≡ n → length l ≡ n
@@ -44,7 +45,7 @@ length-mapped f l n e = sym (length-map l f) ∙ e
 pub sized : (t : TableStruct) → Is (row the-type) t (val the-type the-laws t ∷ []) → Sized t
 sized t good = search (length-mapped, needs)
 
-pub eight-gateways : (r : RowStruct) → Is (row row-type) r (val row-type row-laws r ∷ []) → length (r .gateways) ≡ 8
+pub eight-gateways : (r : RowStruct) → Is (row row-type) r (val row-type row-laws r ∷ []) → length (r .gateways) ≡ mostGateways
 eight-gateways r good = search needs
 
 -- ---- the table's lists
@@ -116,5 +117,5 @@ fits-length [] (r ∷ s) f = absurd f
 fits-length (w ∷ ws) [] f = absurd f
 fits-length (w ∷ ws) (r ∷ s) f = ap suc (fits-length ws s (f .1))
 
-pub five-ranges : {s : Selector} → SelectorRule s → length s ≡ 5
+pub five-ranges : {s : Selector} → SelectorRule s → length s ≡ fieldCount
 five-ranges {s} rule = fits-length widths s (rule .fits)

@@ -1,92 +1,93 @@
 -- What is printed, from the answers of List and Strike.
 -- Assumes nothing.
-use Prim.Native.Nat.{ℕ, _*_, _≤_}
-use mathlib.Core.Path.{_≡_, refl, sym, ap, _∙_}
+use Prim.Native.Nat.{ℕ, _*_, _<_}
+use mathlib.Core.Path.{_≡_, refl, sym, ap, subst, _∙_}
+use mathlib.Core.Logic.{_⊎_, inl, inr}
 use mathlib.Core.List.{List}
 use native.Mathlib.Omega.{arith}
 use lib.ListN.{length, take, drop}
 use lib.Seq.{take-at}
-use Rattle.hex.proofs.Laws.Outputs.{written-all}
-use Rattle.reader.specs.States.{Parsed, parse}
+use Rattle.base.specs.Answers.{returned, refusedBy}
+use Rattle.base.proofs.Laws.Outputs.{written-all}
+use Rattle.policy.specs.Model.{Table}
+use Rattle.frames.specs.Refusals.{shortOutput}
+use Rattle.reader.specs.States.{parse}
 use Rattle.reader.proofs.Laws.Wellformed.{accepted-wellformed, refused-line}
-use Rattle.kinds.specs.Entries.{entries}
+use Rattle.kinds.specs.Entries.{entries, mostEntries}
 use Rattle.kinds.proofs.Laws.Few.{entries-few}
-use Rattle.listing.specs.Bytes.{bytes}
+use Rattle.listing.specs.Bytes.{bytes, entryBytes}
 use Rattle.listing.proofs.Laws.Puts.{length-bytes}
 use Rattle.striking.specs.Texts.{struckText}
-use Rattle.analyser.specs.Calls.{Returned, returned, refusedBy, listOf, listWritten, strikeOf, strikeWritten}
-use Rattle.analyser.proofs.Laws.Outputs.{whole, short, refused, ListEnds, StrikeEnds, list-ends, strike-ends}
-use Rattle.printing.specs.Printed.{most, refusalLine, hexLines, rowlistPrints, strikePrints, Prints}
+use Rattle.analyser.specs.Calls.{listOf, listWritten, strikeOf, strikeWritten}
+use Rattle.analyser.specs.Views.{listAnswer, strikeAnswer}
+use Rattle.analyser.specs.declared.Listed.{Listed}
+use Rattle.analyser.specs.declared.Listed.the-variants.{Count, Refused as ListRefused}
+use Rattle.analyser.specs.declared.Struck.{Struck}
+use Rattle.analyser.specs.declared.Struck.the-variants.{Length, Refused as StrikeRefused}
+use Rattle.analyser.proofs.Laws.Outputs.{room, no-room, call-short, call-whole, list-told, list-refused, strike-told, strike-refused}
+use Rattle.printing.specs.Printed.{refusalLine, hexLines, listPrinted, struckPrinted, Prints}
 use Rattle.printing.proofs.Laws.Lines.{lines-bytes}
-use Rattle.printing.proofs.Laws.Printed.{prints-not, prints-all, prints-other, printed-accepted, printed-refused}
+use Rattle.printing.proofs.Laws.Printed.{prints-not, prints-all, prints-other}
 
 -- ---- what List answers with room for all entries
 
-module _ (input out : List ℕ) (h : length input ≤ most) (room : length out ≡ 38400) where
-  pub rowlist-counted : (n : ℕ) → returned n ≡ listOf input out → hexLines (take (3 * n) (listWritten input out)) ≡ rowlistPrints input
-  unfolding rowlistPrints
-  rowlist-counted n e = go (list-ends input out) refl e
-    where
-      go : {p : Parsed} {r : Returned} {after : List ℕ} → ListEnds out p r after
-          → parse input ≡ p → returned n ≡ r → hexLines (take (3 * n) after) ≡ rowlistPrints input
-      go (whole t l) a c =
-          let m : n ≡ length (entries t) = cc in
-          let b = length-bytes (entries t) in
-          ap hexLines (take-at (bytes (entries t)) (drop (length (bytes (entries t))) out) (3 * n) (omega arith))
-          ∙ lines-bytes (entries t)
-          ∙ sym (printed-accepted _ input h t a)
-      go (short t l) a c = let z : _≡_ {A = ℕ} 0 1 = cc in absurd (omega arith)
-      go (refused k l) a c = let z : _≡_ {A = ℕ} 0 1 = cc in absurd (omega arith)
+module _ (input out after : List ℕ) (r : Listed) (long : length out ≡ entryBytes * mostEntries) (a : listAnswer r ≡ listOf input out) where
+  pub rowlist-counted : (n : ℕ) → r ≡ Count n → after ≡ listWritten input out → hexLines (take (entryBytes * n) after) ≡ listPrinted (parse input)
+  unfolding listPrinted listWritten
+  rowlist-counted n e o =
+      let w = list-told input out n (sym a ∙ ap listAnswer e) in
+      let es = entries (w .of) in
+      let b = length-bytes es in
+      let m = w .tells in
+      ap (λ (l : List ℕ). hexLines (take (entryBytes * n) l)) (o ∙ call-whole bytes length entries out (parse input) (w .of) (w .read) (room (bytes es) out (w .keeps)) .1)
+      ∙ ap hexLines (take-at (bytes es) (drop (length (bytes es)) out) (entryBytes * n) (omega arith))
+      ∙ lines-bytes es
+      ∙ sym (ap listPrinted (w .read))
 
-  pub rowlist-refused : (number line : ℕ) → refusedBy number line ≡ listOf input out → refusalLine number line ≡ rowlistPrints input
-  unfolding rowlistPrints
-  rowlist-refused number line e = go (list-ends input out) refl e
-    where
-      go : {p : Parsed} {r : Returned} {after : List ℕ} → ListEnds out p r after
-          → parse input ≡ p → refusedBy number line ≡ r → refusalLine number line ≡ rowlistPrints input
-      go (whole t l) a c = let z : _≡_ {A = ℕ} 0 1 = cc in absurd (omega arith)
-      go (short t l) a c =
-          let f = entries-few t (accepted-wellformed input t a) in
-          let b = length-bytes (entries t) in
-          absurd (omega arith)
-      go (refused k j) a c = sym (printed-refused _ input h number line (a ∙ cc))
+  pub rowlist-refused : (number line : ℕ) → r ≡ ListRefused number line → refusalLine number line ≡ listPrinted (parse input)
+  unfolding listPrinted
+  rowlist-refused number line e = elim (list-refused input out number line (sym a ∙ ap listAnswer e)) [
+    | inl p ↦ sym (ap listPrinted p)
+    | inr w ↦ let few = entries-few (w .0) (accepted-wellformed input (w .0) (w .1)) in
+        let b = length-bytes (entries (w .0)) in
+        absurd (omega (arith, no-room (bytes (entries (w .0))) out number (w .2)))
+  ]
 
 -- ---- what Strike answers
 
-module _ (input out after : List ℕ) (h : length input ≤ most) (w : after ≡ strikeWritten input out) where
-  pub strike-whole : (n : ℕ) → returned n ≡ strikeOf input out → Prints (strikePrints input) out after n
-  unfolding strikePrints
-  strike-whole n e = rw w (go (strike-ends input out) refl e)
-    where
-      go : {p : Parsed} {r : Returned} {after : List ℕ} → StrikeEnds input out p r after
-          → parse input ≡ p → returned n ≡ r → Prints (strikePrints input) out after n
-      go (whole t l) a c =
-          let result = struckText input t in
-          prints-other (sym (printed-accepted (struckText input) input h t a)) (prints-all result out _ n l (written-all result out l) (cc))
-      go (short t l) a c = let z : _≡_ {A = ℕ} 0 1 = cc in absurd (omega arith)
-      go (refused k l) a c = let z : _≡_ {A = ℕ} 0 1 = cc in absurd (omega arith)
+module _ (input out after : List ℕ) (r : Struck) (a : strikeAnswer r ≡ strikeOf input out) (o : after ≡ strikeWritten input out) where
+  pub strike-whole : (n : ℕ) → r ≡ Length n → Prints (struckPrinted input (parse input)) out after n
+  unfolding struckPrinted strikeWritten
+  strike-whole n e =
+      let w = strike-told input out n (sym a ∙ ap strikeAnswer e) in
+      let result = struckText input (w .of) in
+      let l = room result out (w .keeps) in
+      prints-other (sym (ap (struckPrinted input) (w .read)))
+      (prints-all result out after n l
+      (o ∙ call-whole (λ b. b) length (struckText input) out (parse input) (w .of) (w .read) l .1 ∙ written-all result out l)
+      (w .tells))
 
-  -- A text's own refusals have numbers up to 7.
-  pub strike-short : (number line : ℕ) → number ≡ 8 → refusedBy number line ≡ strikeOf input out → Prints (strikePrints input) out after 0
-  unfolding strikePrints
-  strike-short number line eight e = rw w (go (strike-ends input out) refl e)
-    where
-      go : {p : Parsed} {r : Returned} {after : List ℕ} → StrikeEnds input out p r after
-          → parse input ≡ p → refusedBy number line ≡ r → Prints (strikePrints input) out after 0
-      go (whole t l) a c = let z : _≡_ {A = ℕ} 0 1 = cc in absurd (omega arith)
-      go (short t l) a c = prints-other (sym (printed-accepted (struckText input) input h t a)) (prints-not (struckText input t) out l)
-      go (refused k j) a c =
-          let m : number ≡ k = cc in
-          absurd (omega (arith, refused-line input k j a .1 .1))
+  module _ (number line : ℕ) (e : r ≡ StrikeRefused number line) where
+    why : (parse input ≡ refusedBy number line) ⊎ ((t : Table) × (parse input ≡ returned t) × (number ≡ shortOutput) × (length out < length (struckText input t)))
+    why = elim (strike-refused input out number line (sym a ∙ ap strikeAnswer e)) [
+      | inl p ↦ inl p
+      | inr w ↦ let n = no-room (struckText input (w .0)) out number (w .2) in inr (w .0, w .1, n .0, n .1)
+    ]
 
-  -- Such a refusal writes nothing, so that its line is put into the output as it was.
-  pub strike-refused : (number line : ℕ) {end : List ℕ} {n : ℕ} → (number ≡ 8 → ⊥) → refusedBy number line ≡ strikeOf input out
-      → Prints (refusalLine number line) after end n → Prints (strikePrints input) out end n
-  unfolding strikePrints
-  strike-refused number line {end} {n} other e put = go (strike-ends input out) refl e (rw w at put)
-    where
-      go : {p : Parsed} {r : Returned} {same : List ℕ} → StrikeEnds input out p r same
-          → parse input ≡ p → refusedBy number line ≡ r → Prints (refusalLine number line) same end n → Prints (strikePrints input) out end n
-      go (whole t l) a c q = let z : _≡_ {A = ℕ} 0 1 = cc in absurd (omega arith)
-      go (short t l) a c q = absurd (other (cc))
-      go (refused k j) a c q = prints-other (sym (printed-refused (struckText input) input h number line (a ∙ cc))) q
+    -- A text's own refusals have smaller numbers.
+    pub strike-short : number ≡ shortOutput → Prints (struckPrinted input (parse input)) out after 0
+    unfolding struckPrinted strikeWritten
+    strike-short s = elim why [
+      | inl p ↦ absurd (omega (arith, refused-line input number line p .1 .1))
+      | inr w ↦ prints-other (sym (ap (struckPrinted input) (w .1)))
+          (rw (o ∙ call-short (λ b. b) length (struckText input) out (parse input) (w .0) (w .1) (w .3) .1) (prints-not (struckText input (w .0)) out (w .3)))
+    ]
+
+    -- Such a refusal writes nothing, so that its line is put into the output as it was.
+    pub strike-refusal : {end : List ℕ} {n : ℕ} → (number ≡ shortOutput → ⊥) → Prints (refusalLine number line) after end n → Prints (struckPrinted input (parse input)) out end n
+    unfolding struckPrinted strikeWritten
+    strike-refusal {end} {n} other put = elim why [
+      | inl p ↦ prints-other (sym (ap (struckPrinted input) p))
+          (subst (λ (l : List ℕ). Prints (refusalLine number line) l end n) (o ∙ rw p refl) put)
+      | inr w ↦ absurd (other (w .2))
+    ]

@@ -4,13 +4,12 @@ use Prim.Native.Nat.{ℕ, suc, _+_, _-_, _*_, _/_, _≤_, _<_}
 use mathlib.Core.Path.{_≡_, refl, sym, ap, _∙_}
 use mathlib.Core.List.{List, [], _∷_, _++_, append-nil, append-assoc}
 use native.Mathlib.Omega.{arith}
-use lib.ListN.{length, getD, take, drop, length-append, length-drop, drop-of-length-le}
+use lib.ListN.{length, getD, take, drop, length-drop, drop-of-length-le}
 use lib.Seq.{sets, sets-eq, take-all, take-length, drop-cons, drop-drop}
-use Rattle.policy.proofs.Laws.Lists.{sets-append}
 use Rattle.kinds.specs.Entries.{Entry}
-use Rattle.listing.specs.Bytes.{bytes}
+use Rattle.listing.specs.Bytes.{bytes, entryBytes}
 use Rattle.listing.proofs.Laws.Puts.{bytes-none, bytes-more}
-use Rattle.striking.proofs.Laws.Copying.{Copying}
+use Rattle.printing.specs.Limits.{lineBytes}
 use Rattle.printing.specs.Printed.{entryLine, entryLines, hexLines}
 
 pub lines-bytes : (es : List Entry) → hexLines (bytes es) ≡ entryLines es
@@ -20,12 +19,12 @@ lines-bytes (e ∷ es) = ap hexLines (bytes-more e es) ∙ ap (λ (l : List ℕ)
 
 -- ---- how long they are
 
-pub length-lines : (es : List Entry) → length (entryLines es) ≡ 7 * length es
+pub length-lines : (es : List Entry) → length (entryLines es) ≡ lineBytes * length es
 unfolding entryLines
 length-lines [] = refl
 length-lines (e ∷ es) = let h = length-lines es in omega arith
 
-pub length-hex : (l : List ℕ) → length (hexLines l) ≡ 7 * (length l / 3)
+pub length-hex : (l : List ℕ) → length (hexLines l) ≡ lineBytes * (length l / entryBytes)
 unfolding hexLines
 length-hex [] = refl
 length-hex (a ∷ []) = refl
@@ -35,45 +34,28 @@ length-hex (a ∷ b ∷ c ∷ l) = let h = length-hex l in omega arith
 -- ---- one line more
 
 module _ (l : List ℕ) (i : ℕ) where
-  -- The line of the bytes from place 3 * i on.
+  -- The line of the bytes of entry i.
   abbrev pub lineAt : List ℕ
-  lineAt = entryLine (getD l (3 * i) 0) (getD l (3 * i + 1) 0) (getD l (3 * i + 2) 0)
+  lineAt = entryLine (getD l (entryBytes * i) 0) (getD l (entryBytes * i + 1) 0) (getD l (entryBytes * i + 2) 0)
 
-  pub line-next : i < length l / 3 → hexLines (drop (3 * i) l) ≡ lineAt ++ hexLines (drop (3 * (i + 1)) l)
+  pub line-next : i < length l / entryBytes → hexLines (drop (entryBytes * i) l) ≡ lineAt ++ hexLines (drop (entryBytes * (i + 1)) l)
   unfolding hexLines
   line-next h =
-      let j = 3 * i in
+      let j = entryBytes * i in
       let one : suc j ≡ j + 1 = omega arith in
       let two : suc (j + 1) ≡ j + 2 = omega arith in
-      let three : suc (j + 2) ≡ 3 * (i + 1) = omega arith in
+      let three : suc (j + 2) ≡ entryBytes * (i + 1) = omega arith in
       rw (drop-cons l j 0 (omega arith), one, drop-cons l (j + 1) 0 (omega arith), two, drop-cons l (j + 2) 0 (omega arith), three)
 
-  pub line-end : length l / 3 ≤ i → hexLines (drop (3 * i) l) ≡ []
+  pub line-end : length l / entryBytes ≤ i → hexLines (drop (entryBytes * i) l) ≡ []
   unfolding hexLines
-  line-end h = none (drop (3 * i) l) (omega (arith, length-drop (3 * i) l))
+  line-end h = none (drop (entryBytes * i) l) (omega (arith, length-drop (entryBytes * i) l))
     where
-      none : (m : List ℕ) → length m < 3 → hexLines m ≡ []
+      none : (m : List ℕ) → length m < entryBytes → hexLines m ≡ []
       none [] b = refl
       none (a ∷ []) b = refl
       none (a ∷ b ∷ []) h = refl
       none (a ∷ b ∷ c ∷ m) h = absurd (omega arith)
-
--- Some bytes more, stored after those that stand.
-pub copying-more : {before out next : List ℕ} {n m : ℕ} {whole left : List ℕ} (more : List ℕ)
-    → Copying before out n whole (more ++ left) → next ≡ sets out n more → m ≡ n + length more → Copying before next m whole left
-copying-more {before} {out} {next} {n} {m} {whole} {left} more g e q =
-    let k = g .count in
-    let z : n ≡ 0 + length (g .done) = omega arith in
-    record {
-      done = g .done ++ more;
-      stored =
-          e
-          ∙ ap (λ (l : List ℕ). sets l n more) (g .stored)
-          ∙ ap (λ (j : ℕ). sets (sets before 0 (g .done)) j more) z
-          ∙ sym (sets-append before 0 (g .done) more);
-      count = let f = length-append (g .done) more in omega arith;
-      rest = append-assoc (g .done) more left ∙ g .rest;
-    }
 
 -- Some bytes copied to the part from place n on are stored there.
 pub part-stored : (l more : List ℕ) (n : ℕ) → n + length more ≤ length l

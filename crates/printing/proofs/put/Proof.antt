@@ -2,7 +2,7 @@
 use borrow.Author.Needs.{needs}
 use mathlib.Core.Path.{refl, _∙_}
 use denote.Ref.{now}
-use Rattle.hex.proofs.Laws.Outputs.{written-copied}
+use Rattle.base.proofs.Laws.Outputs.{written-copied}
 use Rattle.printing.proofs.Laws.Printed.{prints-not, prints-all}
 use Rattle.printing.proofs.put.Statement.{statement}
 use Rattle.printing.proofs.put.Tie as tie
@@ -19,6 +19,5 @@ put-spec =
     tie.close
     (tie.spec
     (λ c. prints-not _ _ (c .if1 .taken))
-    (λ c κs. search needs)
-    (λ c. search needs)
+    (λ c κs. search needs) (λ c. search needs)
     whole)

@@ -7,16 +7,18 @@ use native.Mathlib.Omega.{arith}
 use denote.Ref.{now}
 use lib.ListN.{length, drop}
 use lib.Seq.{length-sets}
-use Rattle.hex.proofs.Laws.Outputs.{written-stored}
-use Rattle.striking.proofs.Laws.Copying.{Copying, copying-start, copying-end}
+use Rattle.base.proofs.Laws.Outputs.{written-stored}
+use Rattle.base.proofs.Laws.Copying.{Copying, copying-start, copying-end, copying-more}
+use Rattle.listing.specs.Bytes.{entryBytes}
+use Rattle.printing.specs.Limits.{lineBytes}
 use Rattle.printing.specs.Printed.{hexLines}
-use Rattle.printing.proofs.Laws.Lines.{length-hex, lineAt, line-next, line-end, copying-more}
+use Rattle.printing.proofs.Laws.Lines.{length-hex, lineAt, line-next, line-end}
 use Rattle.printing.proofs.Laws.Printed.{prints-not, prints-all}
 use Rattle.printing.proofs.put_entries.Statement.{statement}
 use Rattle.printing.proofs.put_entries.Tie as tie
 
 abbrev I : tie.InvT-loop
-I entries out₀ count i₀ out i = Copying out₀ out (7 * i) (hexLines entries) (hexLines (drop (3 * i) entries))
+I entries out₀ count i₀ out i = Copying out₀ out (lineBytes * i) (hexLines entries) (hexLines (drop (entryBytes * i) entries))
 
 abbrev μ : tie.MeasureT-loop
 μ entries out₀ count i₀ out i = count - i
@@ -35,7 +37,7 @@ module _ (c : tie.At-loop I μ) where
   long : length (c .loop .out) ≡ length out
   long = ap length (c .loop .inv .stored) ∙ length-sets out 0 (c .loop .inv .done)
 
-  room : 7 * (length entries / 3) ≤ length out
+  room : lineBytes * (length entries / entryBytes) ≤ length out
   room = let h = c .before .if1 .left in omega arith
 
 short : tie.Need-returns I μ
@@ -50,10 +52,10 @@ module _ (c : tie.After-put-line I μ) where
   abbrev l : tie.At-loop I μ
   l = c .before .before .before .before .before .before
 
-  more : Copying (out l) (c .put-line .last .1 .1 .1 .1 .0) (7 * (l .loop .i + 1)) (hexLines (entries l)) (hexLines (drop (3 * (l .loop .i + 1)) (entries l)))
+  more : Copying (out l) (c .put-line .last .1 .1 .1 .1 .0) (lineBytes * (l .loop .i + 1)) (hexLines (entries l)) (hexLines (drop (entryBytes * (l .loop .i + 1)) (entries l)))
   more =
       copying-more (lineAt (entries l) (l .loop .i))
-      (subst (Copying (out l) (l .loop .out) (7 * l .loop .i) (hexLines (entries l))) (line-next (entries l) (l .loop .i) (c .before .before .before .before .before .loop-test .taken))
+      (subst (Copying (out l) (l .loop .out) (lineBytes * l .loop .i) (hexLines (entries l))) (line-next (entries l) (l .loop .i) (c .before .before .before .before .before .loop-test .taken))
       (l .loop .inv))
       (c .put-line .ensures)
       (omega arith)
@@ -66,7 +68,7 @@ whole c =
     let h : length (hexLines (entries k)) ≤ length (out k) = omega arith in
     prints-all (hexLines (entries k)) (out k) _ _ h
     (copying-end
-    (subst (Copying (out k) (k .loop .out) (7 * k .loop .i) (hexLines (entries k))) (line-end (entries k) (k .loop .i) (c .loop-test .left)) (k .loop .inv))
+    (subst (Copying (out k) (k .loop .out) (lineBytes * k .loop .i) (hexLines (entries k))) (line-end (entries k) (k .loop .i) (c .loop-test .left)) (k .loop .inv))
     ∙ written-stored (hexLines (entries k)) (out k) h)
     (sym e)
 
@@ -78,16 +80,10 @@ put-entries-spec =
     μ
     short
     (λ c. copying-start _ _)
-    (λ c. search needs)
-    (λ c. search needs)
-    (λ c. search needs)
-    (λ c. search needs)
-    (λ c. search needs)
-    (λ c. search needs)
+    (λ c. search needs) (λ c. search needs) (λ c. search needs) (λ c. search needs) (λ c. search needs) (λ c. search needs)
     (λ c. let h = room (c .before .before .before .before) in search needs)
     (λ c κs. let k = c .before .before .before .before .before in let h = room k in let e = long k in omega arith)
-    (λ c. search needs)
-    (λ c. search needs)
+    (λ c. search needs) (λ c. search needs)
     (λ c. more (c .before .before))
     (λ c. let h = room (c .before) in search needs)
     (λ c. long (c .before))

@@ -8,8 +8,9 @@ use Prim.Native.Nat.{ℕ}
 use lib.Dec.{eqb}
 use lib.ListN.{length}
 use Rattle.hex.specs.Lines.{isLine, bytesOf}
+use Rattle.frames.specs.Progress.{nothing}
 use Rattle.reader.specs.Lines.{linesOf, restOf}
-use Rattle.reader.specs.States.{State, reading, refused, nothing, step, run, finish, parse}
+use Rattle.reader.specs.States.{State, reading, refused, step, run, finish, parse}
 
 abbrev pub SameBytes : List (List ℕ) → List (List ℕ) → Type 0
 SameBytes [] [] = Unit {0}

@@ -14,11 +14,14 @@ use denote.Struct.Laws.{val}
 use lib.Dec.{eqb}
 use lib.ListN.{length, length-map}
 use Rattle.policy.proofs.Laws.Tables.{Sized, Counted, counted}
-use Rattle.hex.specs.Digits.{pick}
+use Rattle.base.specs.Truths.{pick}
 use Rattle.policy.specs.Model.{Table}
 use Rattle.policy.specs.Views.{tableOf, Stands}
-use Rattle.reader.specs.States.{Progress, State, reading, refused, run, finish, Parsed, accepted, refusedAt}
-use Rattle.reader.specs.Views.{progressOf, things, stateOf, Ready, Reads, Parses}
+use Rattle.base.specs.Answers.{Answer, returned, refusedBy}
+use Rattle.frames.specs.Numbers.{Lent}
+use Rattle.frames.specs.Progress.{Progress, linesRead}
+use Rattle.reader.specs.States.{State, reading, refused, run, finish}
+use Rattle.reader.specs.Views.{progressOf, stateOf, Ready, Reads, Parses}
 use Rattle.reader.specs.declared.Reader.{Reader}
 use Rattle.reader.proofs.Laws.States.{run-refused}
 use Rattle.reader.proofs.Reader.{the-type}
@@ -36,19 +39,27 @@ table-counted r good ready =
     let h = ready .held .capped in
     counted (r .table) (omega arith)
 
+-- Its parents and layers are lent with so many entities.
+module _ (r : Reader) (good : Is (row the-type) r (val the-type the-laws r ∷ [])) (ready : Ready r) where
+  pub parents-lent : Lent (r .table .parents) (r .table .entities)
+  parents-lent = record { full = table-sized r good .parents; few = ready .held .entities }
+
+  pub layers-lent : Lent (r .table .layers) (r .table .entities)
+  layers-lent = record { full = table-sized r good .layers; few = ready .held .entities }
+
 -- A reader that stands for a state stands for what that is equal to.
 pub moved : {r : Reader} {s t : State} → Reads r s → s ≡ t → Reads r t
 moved h e = record { same = h .same ∙ e; ready = h .ready }
 
--- A reader with a table and no refusal.
-pub reads : (r : Reader) (t : Table) (f n : ℕ) → r .number ≡ 0 → Stands (r .table) t → r .floored ≡ f → f ≤ 1
-    → things (record { table = t; floored = f }) ≡ n → Reads r (reading n (record { table = t; floored = f }))
-reads r t f n z s g b q =
+-- A reader with what has been read and no refusal.
+pub reads : (r : Reader) (p : Progress) (n : ℕ) → r .number ≡ 0 → Stands (r .table) (p .table) → r .floored ≡ p .floored → p .floored ≤ 1
+    → linesRead p ≡ n → Reads r (reading n p)
+reads r p n z s g b q =
     record {
       same =
           rw (eq-eqb (r .number) 0 z)
-          ((λ i. reading (things (record { table = s .same i; floored = g i })) (record { table = s .same i; floored = g i }))
-          ∙ ap (λ m. reading m (record { table = t; floored = f })) q);
+          ((λ i. reading (linesRead (record { table = s .same i; floored = g i })) (record { table = s .same i; floored = g i }))
+          ∙ ap (λ m. reading m p) q);
       ready = record { held = s .held; floored = omega arith };
     }
 
@@ -56,16 +67,16 @@ reads r t f n z s g b q =
 pub going : {r : Reader} {n : ℕ} {p : Progress} → Reads r (reading n p) → r .number ≡ 0
 going {r} {n} {p} h = go (eqb (r .number) 0) refl (h .same)
   where
-    go : (b : Bool) → eqb (r .number) 0 ≡ b → pick b (reading (things (progressOf r)) (progressOf r)) (refused (r .number) (r .line)) ≡ reading n p → r .number ≡ 0
+    go : (b : Bool) → eqb (r .number) 0 ≡ b → pick b (reading (linesRead (progressOf r)) (progressOf r)) (refused (r .number) (r .line)) ≡ reading n p → r .number ≡ 0
     go true e q = eqb-true (r .number) 0 e
     go false e q = let z : _≡_ {A = ℕ} 0 1 = cc in absurd (omega arith)
 
 -- A reader that is refused is that of a refused text.
-pub parsed-refused : {r : Reader} {k n : ℕ} → Reads r (refused k n) → Parses r (refusedAt k n)
+pub parsed-refused : {r : Reader} {k n : ℕ} → Reads r (refused k n) → Parses r (refusedBy k n)
 parsed-refused {r} {k} {n} h = record { same = go (eqb (r .number) 0) (h .same); ready = h .ready }
   where
-    go : (b : Bool) → pick b (reading (things (progressOf r)) (progressOf r)) (refused (r .number) (r .line)) ≡ refused k n
-        → pick b (accepted (tableOf (r .table))) (refusedAt (r .number) (r .line)) ≡ refusedAt k n
+    go : (b : Bool) → pick b (reading (linesRead (progressOf r)) (progressOf r)) (refused (r .number) (r .line)) ≡ refused k n
+        → pick b (returned (tableOf (r .table))) (refusedBy (r .number) (r .line)) ≡ refusedBy k n
     go true q = let z : _≡_ {A = ℕ} 0 1 = cc in absurd (omega arith)
     go false q = let x : r .number ≡ k = cc in let y : r .line ≡ n = cc in cc
 
@@ -74,5 +85,5 @@ pub parses-refused : (r : Reader) (lines : List (List ℕ)) (rest : List ℕ) �
 unfolding finish
 parses-refused r lines rest n ready = record { same = rw (ne-eqb (r .number) 0 n) (rw (run-refused (r .number) (r .line) lines)); ready = ready }
 
-pub parses-moved : {r : Reader} {x y : Parsed} → Parses r x → x ≡ y → Parses r y
+pub parses-moved : {r : Reader} {x y : Answer Table} → Parses r x → x ≡ y → Parses r y
 parses-moved h e = record { same = h .same ∙ e; ready = h .ready }

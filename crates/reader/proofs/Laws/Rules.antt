@@ -11,24 +11,28 @@ use Prim.Native.Nat.{ℕ, suc}
 use native.Mathlib.Omega.{arith}
 use borrow.Author.Tests.{eqb-true}
 use lib.Dec.{eqb}
+use lib.ListN.{length}
 use lib.Seq.{append-snoc}
 use Rattle.hex.specs.Lines.{isLine, bytesOf}
 use Rattle.policy.specs.Model.{Table}
-use Rattle.frames.specs.Checks.{refusal}
+use Rattle.base.specs.Checks.{refusal}
 use Rattle.reader.specs.Lines.{linesOf, restOf}
 use Rattle.reader.specs.Frames.{Frame, frameOf}
-use Rattle.reader.specs.States.{Progress, reading, refused, nothing, checks, grown, takeFrame, step, run, Parsed, accepted, refusedAt, finish, parse}
+use Rattle.base.specs.Answers.{Answer, returned, refusedBy}
+use Rattle.frames.specs.Progress.{Progress, nothing}
+use Rattle.frames.proofs.Laws.Growing.{Growing, growing-nothing}
+use Rattle.reader.specs.States.{State, reading, refused, checks, grown, takeFrame, step, run, finish, parse}
 use Rattle.reader.specs.Rules.{KeepsRules}
 use Rattle.reader.proofs.Laws.States.{run-refused}
 use Rattle.reader.proofs.Laws.Runs.{pick-either}
-use Rattle.reader.proofs.Laws.Wellformed.{Growing, growing-nothing, growing-frame, in-range, accepted-wellformed}
-use Rattle.reader.proofs.Laws.Rows.{accepted-rows}
+use Rattle.reader.proofs.Laws.Wellformed.{growing-frame, in-range, accepted-wellformed}
 use Rattle.reader.proofs.Laws.Sequence.{empty, framesSoFar, so-far-more, Leads, leads-table}
 
-abbrev frame : List ℕ → Frame
-frame l = frameOf (bytesOf l)
+-- The frame of a line.
+abbrev pub lineFrame : List ℕ → Frame
+lineFrame l = frameOf (bytesOf l)
 
-abbrev Digits : List (List ℕ) → Type 0
+abbrev pub Digits : List (List ℕ) → Type 0
 Digits ls = (l : List ℕ) → List·Memᴰ l ls → isLine l ≡ true
 
 -- ---- an accepted text keeps the rules
@@ -36,7 +40,7 @@ Digits ls = (l : List ℕ) → List·Memᴰ l ls → isLine l ≡ true
 -- The lines are pairs of digits, and their frames take what is read so far from p to q.
 record Told (p : Progress) (ls : List (List ℕ)) (q : Progress) : Type 0 where
   digits : Digits ls
-  frames : framesSoFar p ++ map frame ls ≡ framesSoFar q
+  frames : framesSoFar p ++ map lineFrame ls ≡ framesSoFar q
 
 -- A refusal leads nowhere.
 stays-refused : (k n m : ℕ) (q : Progress) (ls : List (List ℕ)) → run (refused k n) ls ≡ reading m q → ⊥
@@ -47,12 +51,12 @@ stays-refused k n m q ls e =
 
 -- One line more, before the others.
 told-more : (p : Progress) (l : List ℕ) (ls : List (List ℕ)) (q : Progress) → isLine l ≡ true → Growing p
-    → refusal (checks p (frame l)) ≡ 0 → Told (grown p (frame l)) ls q → Told p (l ∷ ls) q
+    → refusal (checks p (lineFrame l)) ≡ 0 → Told (grown p (lineFrame l)) ls q → Told p (l ∷ ls) q
 told-more p l ls q i g z told =
     record {
       digits = λ m h. elim (List·Memᴰ·cases-cons h) [ inl e ↦ rw e i | inr k ↦ told .digits m k ];
-      frames = sym (append-snoc (framesSoFar p) (frame l) (map frame ls))
-          ∙ ap (λ fs. fs ++ map frame ls) (sym (so-far-more p (frame l) (in-range l) g z)) ∙ told .frames;
+      frames = sym (append-snoc (framesSoFar p) (lineFrame l) (map lineFrame ls))
+          ∙ ap (λ fs. fs ++ map lineFrame ls) (sym (so-far-more p (lineFrame l) (in-range l) g z)) ∙ told .frames;
     }
 
 run-told : (ls : List (List ℕ)) (n m : ℕ) (p q : Progress) → Growing p → run (reading n p) ls ≡ reading m q → Told p ls q
@@ -62,20 +66,37 @@ run-told [] n m p q g e =
     record { digits = λ l h. absurd (List·Memᴰ·not-nil h); frames = append-nil (framesSoFar p) ∙ ap framesSoFar same }
 run-told (l ∷ ls) n m p q g e =
     pick-either (λ s. run s ls ≡ reading m q → Told p (l ∷ ls) q) (isLine l) _ _
-    (λ i. pick-either (λ s. run s ls ≡ reading m q → Told p (l ∷ ls) q) (eqb (refusal (checks p (frame l))) 0) _ _
+    (λ i. pick-either (λ s. run s ls ≡ reading m q → Told p (l ∷ ls) q) (eqb (refusal (checks p (lineFrame l))) 0) _ _
     (λ z x.
-    let kept = eqb-true (refusal (checks p (frame l))) 0 z in
-    told-more p l ls q i g kept (run-told ls (suc n) m (grown p (frame l)) q (growing-frame p (frame l) (in-range l) g kept) x))
+    let kept = eqb-true (refusal (checks p (lineFrame l))) 0 z in
+    told-more p l ls q i g kept (run-told ls (suc n) m (grown p (lineFrame l)) q (growing-frame p (lineFrame l) (in-range l) g kept) x))
     (λ z x. absurd (stays-refused _ _ m q ls x)))
     (λ i x. absurd (stays-refused _ _ m q ls x))
     e
 
-accepted-keeps : (text : List ℕ) (t : Table) → parse text ≡ accepted t → KeepsRules text t
+-- What a state and the text's end are, by what the text is.
+abbrev Ending : State → List ℕ → Answer Table → Type 0
+Ending s rest (returned t) = (length rest ≡ 0) × (n : ℕ) × (s ≡ reading n (record { table = t; floored = 1 }))
+Ending s rest (refusedBy k n) = Unit {0}
+
+ending : (s : State) (rest : List ℕ) → Ending s rest (finish s rest)
+unfolding finish
+ending (reading n p) rest =
+    pick-either (Ending (reading n p) rest) (eqb (length rest) 0) _ _
+    (λ e. pick-either (Ending (reading n p) rest) (eqb (p .floored) 1) _ _
+    (λ f. (eqb-true _ _ e, n, ap (λ x. reading n (record { table = p .table; floored = x })) (eqb-true _ _ f)))
+    (λ f. tt))
+    (λ e. tt)
+ending (refused k n) rest = tt
+
+accepted-keeps : (text : List ℕ) (t : Table) → parse text ≡ returned t → KeepsRules text t
+unfolding parse
 accepted-keeps text t e =
-    let a = accepted-rows text t e in
-    let told = run-told (linesOf text) 0 _ nothing (record { table = t; floored = 1 }) growing-nothing (a .read) in
+    let s = run (reading 0 nothing) (linesOf text) in
+    let x : Ending s (restOf text) (returned t) = rw e at (ending s (restOf text)) in
+    let told = run-told (linesOf text) 0 _ nothing (record { table = t; floored = 1 }) growing-nothing (x .2) in
     record {
-      ended = empty (restOf text) (a .ended);
+      ended = empty (restOf text) (x .0);
       digits = told .digits;
       frames = told .frames;
       well = accepted-wellformed text t e;
@@ -84,32 +105,32 @@ accepted-keeps text t e =
 -- ---- a text that keeps the rules is accepted
 
 -- Lines of digits whose frames lead from p to q are read so.
-run-leads : (ls : List (List ℕ)) (n : ℕ) (p q : Progress) → Digits ls → Leads p (map frame ls) q
+run-leads : (ls : List (List ℕ)) (n : ℕ) (p q : Progress) → Digits ls → Leads p (map lineFrame ls) q
     → (m : ℕ) × (run (reading n p) ls ≡ reading m q)
 unfolding run step takeFrame
 run-leads [] n p q d h = (n, ap (reading n) h)
 run-leads (l ∷ ls) n p q d h =
-    rw (d l (List·Memᴰ·head refl), h .0) (run-leads ls (suc n) (grown p (frame l)) q (λ m k. d m (List·Memᴰ·tail k)) (h .1))
+    rw (d l (List·Memᴰ·head refl), h .0) (run-leads ls (suc n) (grown p (lineFrame l)) q (λ m k. d m (List·Memᴰ·tail k)) (h .1))
 
-keeps-accepted : (text : List ℕ) (t : Table) → KeepsRules text t → parse text ≡ accepted t
+keeps-accepted : (text : List ℕ) (t : Table) → KeepsRules text t → parse text ≡ returned t
 unfolding parse finish
 keeps-accepted text t k =
     let p : Progress = record { table = t; floored = 1 } in
-    let h : Leads nothing (map frame (linesOf text)) p = rw (k .frames) (leads-table t (k .well)) in
+    let h : Leads nothing (map lineFrame (linesOf text)) p = rw (k .frames) (leads-table t (k .well)) in
     rw (run-leads (linesOf text) 0 nothing p (k .digits) h .1, k .ended)
 
 -- ---- the theorem
 
-pub accepted-exactly : (text : List ℕ) (t : Table) → (parse text ≡ accepted t) ↔ KeepsRules text t
+pub accepted-exactly : (text : List ℕ) (t : Table) → (parse text ≡ returned t) ↔ KeepsRules text t
 accepted-exactly text t = (accepted-keeps text t, keeps-accepted text t)
 
 pub one-table : (text : List ℕ) (t u : Table) → KeepsRules text t → KeepsRules text u → t ≡ u
 one-table text t u h k = cc (keeps-accepted text t h, keeps-accepted text u k)
 
 pub refused-otherwise : (text : List ℕ) → ((t : Table) → KeepsRules text t → ⊥)
-    → (number : ℕ) × (line : ℕ) × (parse text ≡ refusedAt number line)
+    → (number : ℕ) × (line : ℕ) × (parse text ≡ refusedBy number line)
 refused-otherwise text none = go (parse text) refl
   where
-    go : (x : Parsed) → parse text ≡ x → (number : ℕ) × (line : ℕ) × (parse text ≡ refusedAt number line)
-    go (accepted t) e = absurd (none t (accepted-keeps text t e))
-    go (refusedAt number line) e = (number, line, e)
+    go : (x : Answer Table) → parse text ≡ x → (number : ℕ) × (line : ℕ) × (parse text ≡ refusedBy number line)
+    go (returned t) e = absurd (none t (accepted-keeps text t e))
+    go (refusedBy number line) e = (number, line, e)

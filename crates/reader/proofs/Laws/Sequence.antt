@@ -8,19 +8,29 @@ use mathlib.Core.Bool.{true}
 use mathlib.Core.List.{List, [], _∷_, _++_, map, map-append, append-nil, append-assoc}
 use Prim.Native.Nat.{ℕ, zero, suc, _+_, _<_}
 use native.Mathlib.Omega.{arith}
-use borrow.Author.Tests.{eqb-true, eq-eqb, lt-ltb}
-use lib.Dec.{eqb, ltb}
+use borrow.Author.Tests.{eq-eqb, lt-ltb}
 use lib.ListN.{length, getD, length-append}
 use lib.Seq.{append-snoc, getD-append-seam}
+use Rattle.policy.specs.Limits.{mostEntities, mostFilters, mostRows, technologies}
 use Rattle.policy.specs.Model.{Entity, Coefficients, Filter, Row, Table, noFilter, noRow}
 use Rattle.policy.specs.Wellformed.{FilterRule, RowRule, Wellformed}
-use Rattle.frames.specs.Checks.{refusal}
-use Rattle.frames.proofs.Laws.Checks.{both, none-broken, one-kept}
-use Rattle.frames.proofs.Laws.Rules.{entity-passes, filter-passes, row-passes}
-use Rattle.reader.specs.Frames.{Frame, anEntity, aCap, aFloor, aFilter, aRow, noFrame}
-use Rattle.reader.specs.States.{Progress, nothing, mayEntity, mayCap, mayFloor, mayFilter, checks, grown}
+use Rattle.base.specs.Checks.{refusal}
+use Rattle.base.proofs.Laws.Checks.{none-broken, one-kept}
+use Rattle.frames.specs.Refusals.{outOfSequence}
+use Rattle.frames.specs.Progress.{Progress, nothing}
+use Rattle.frames.specs.Caps.{Cap, capPlace}
+use Rattle.frames.specs.Floors.{floorPlace}
+use Rattle.frames.specs.Kinds.{ofEntity, ofCap, ofFloor, ofFilter, ofRow}
+use Rattle.frames.proofs.Laws.Growing.{Growing}
+use Rattle.frames.proofs.Laws.Entities.{no-caps, early-entity, entity-passes}
+use Rattle.frames.proofs.Laws.Caps.{cap-next, early-cap}
+use Rattle.frames.proofs.Laws.Floors.{early-floor}
+use Rattle.frames.proofs.Laws.Filters.{early-filter, filter-passes}
+use Rattle.frames.proofs.Laws.Rows.{row-passes}
+use Rattle.reader.specs.Frames.{Frame, aFrame, aRow, noFrame}
+use Rattle.reader.specs.States.{checks, grown}
 use Rattle.reader.specs.Rules.{capFrames, framesOf}
-use Rattle.reader.proofs.Laws.Wellformed.{InRange, Growing, growing-frame, placed, never-none, early-floor, early-filter, early-entity, early-cap}
+use Rattle.reader.proofs.Laws.Wellformed.{InFrame, kept, never-none, growing-frame}
 
 -- ---- the frames of what is read so far
 
@@ -30,51 +40,50 @@ empty (x ∷ l) h = absurd (omega arith)
 
 abbrev floorFrames : ℕ → Coefficients → List Frame
 floorFrames zero c = []
-floorFrames (suc n) c = aFloor c ∷ []
+floorFrames (suc n) c = aFrame ofFloor c ∷ []
 
 -- As framesOf, of a table whose floor may be still to come.
 abbrev pub framesSoFar : Progress → List Frame
 framesSoFar p =
-    map anEntity (p .table .entities)
+    map (aFrame ofEntity) (p .table .entities)
     ++ (capFrames 1 (p .table .caps)
-    ++ (floorFrames (p .floored) (p .table .floor) ++ (map aFilter (p .table .filters) ++ map aRow (p .table .rows))))
+    ++ (floorFrames (p .floored) (p .table .floor) ++ (map (aFrame ofFilter) (p .table .filters) ++ map aRow (p .table .rows))))
 
 -- One cap more.
-caps-more : (n : ℕ) (cs : List Coefficients) (c : Coefficients) (k : ℕ) → k ≡ length cs + n
-    → capFrames n (cs ++ (c ∷ [])) ≡ capFrames n cs ++ (aCap k c ∷ [])
-caps-more n [] c k e = let z : k ≡ n = omega arith in rw z
-caps-more n (d ∷ cs) c k e = ap (λ l. aCap n d ∷ l) (caps-more (suc n) cs c k (omega arith))
+caps-more : (n : ℕ) (cs : List Coefficients) (c : Cap) → c .technology ≡ length cs + n
+    → capFrames n (cs ++ (c .coefficients ∷ [])) ≡ capFrames n cs ++ (aFrame ofCap c ∷ [])
+caps-more n [] c e = let z : c .technology ≡ n = omega arith in rw z
+caps-more n (d ∷ cs) c e =
+    ap (λ l. aFrame ofCap (record { technology = n; coefficients = d }) ∷ l) (caps-more (suc n) cs c (omega arith))
 
 -- Before the floor there is neither it nor a filter nor a row.
 early-frames : (p : Progress) → Growing p → p .floored ≡ 0
-    → framesSoFar p ≡ map anEntity (p .table .entities) ++ capFrames 1 (p .table .caps)
+    → framesSoFar p ≡ map (aFrame ofEntity) (p .table .entities) ++ capFrames 1 (p .table .caps)
 early-frames p g z =
     let none = g .early z in
     rw (z, empty (p .table .filters) (none .0), empty (p .table .rows) (none .1), append-nil (capFrames 1 (p .table .caps)))
 
 -- A frame that is not refused comes after all the others: what it would stand before is not there yet.
-pub so-far-more : (p : Progress) (f : Frame) → InRange f → Growing p → refusal (checks p f) ≡ 0
+pub so-far-more : (p : Progress) (f : Frame) → InFrame f → Growing p → refusal (checks p f) ≡ 0
     → framesSoFar (grown p f) ≡ framesSoFar p ++ (f ∷ [])
-unfolding checks grown
-so-far-more p (anEntity e) i g h =
-    let m = placed (mayEntity p) _ h .0 in
-    let z = early-entity p g m in
-    let none = empty (p .table .caps) (eqb-true _ _ (both (eqb (length (p .table .caps)) 0) _ m .0)) in
-    early-frames (grown p (anEntity e)) (growing-frame p (anEntity e) i g h) z
-    ∙ rw (early-frames p g z, none) (simp (map-append, append-nil))
-so-far-more p (aCap k c) i g h =
-    let m = placed (mayCap p k) _ h .0 in
-    let z = early-cap p g k m in
-    let place = both (ltb (length (p .table .caps)) 6) _ (both (ltb 0 (length (p .table .entities))) _ m .1) .1 in
-    early-frames (grown p (aCap k c)) (growing-frame p (aCap k c) i g h) z
-    ∙ rw (early-frames p g z, caps-more 1 (p .table .caps) c k (eqb-true _ _ place)) (simp append-assoc)
-so-far-more p (aFloor c) i g h =
-    let z = early-floor p (placed (mayFloor p) _ h .0) in
+unfolding grown
+so-far-more p (aFrame ofEntity e) i g h =
+    let m = kept p ofEntity e h .0 in
+    let z = early-entity p e m g in
+    early-frames (grown p (aFrame ofEntity e)) (growing-frame p (aFrame ofEntity e) i g h) z
+    ∙ rw (early-frames p g z, empty (p .table .caps) (no-caps p e m)) (simp (map-append, append-nil))
+so-far-more p (aFrame ofCap c) i g h =
+    let m = kept p ofCap c h .0 in
+    let z = early-cap p c m g in
+    early-frames (grown p (aFrame ofCap c)) (growing-frame p (aFrame ofCap c) i g h) z
+    ∙ rw (early-frames p g z, caps-more 1 (p .table .caps) c (cap-next p c m)) (simp append-assoc)
+so-far-more p (aFrame ofFloor c) i g h =
+    let z = early-floor p c (kept p ofFloor c h .0) in
     let none = g .early z in
     rw (empty (p .table .filters) (none .0), empty (p .table .rows) (none .1), z) (simp (append-assoc, append-nil))
-so-far-more p (aFilter x) i g h =
-    rw (empty (p .table .rows) (early-filter p (placed (mayFilter p) _ h .0))) (simp (map-append, append-assoc, append-nil))
-so-far-more p (aRow r) i g h = simp (map-append, append-assoc)
+so-far-more p (aFrame ofFilter f) i g h =
+    rw (empty (p .table .rows) (early-filter p f (kept p ofFilter f h .0))) (simp (map-append, append-assoc, append-nil))
+so-far-more p (aFrame ofRow r) i g h = simp (map-append, append-assoc)
 so-far-more p noFrame i g h = absurd (never-none p h)
 
 -- ---- frames that are taken one after another
@@ -132,14 +141,14 @@ module _ (t : Table) (w : Wellformed t) where
     floored = 1;
   }
 
-  leads-entities : Leads nothing (map anEntity (t .entities)) (someEntities (t .entities))
+  leads-entities : Leads nothing (map (aFrame ofEntity) (t .entities)) (someEntities (t .entities))
   unfolding checks grown
   leads-entities =
-      leads-from anEntity someEntities (t .entities)
+      leads-from (aFrame ofEntity) someEntities (t .entities)
       (λ done e rest q.
       let b = below (t .entities) done rest e q in
-      let few : length done < 128 = omega (arith, b, w .few-entities) in
-      (one-kept _ 3 _ (lt-ltb (length done) 128 few) (entity-passes t done rest e q (omega arith) (w .entity (length done) b)), refl))
+      let few : length done < mostEntities = omega (arith, b, w .few-entities) in
+      (one-kept _ outOfSequence _ (lt-ltb (length done) mostEntities few) (entity-passes t done rest e q (omega arith) (w .entity (length done) b)), refl))
       [] (t .entities) refl
 
   leads-caps : (done rest : List Coefficients) (k : ℕ) → k ≡ length done + 1 → t .caps ≡ done ++ rest
@@ -147,21 +156,21 @@ module _ (t : Table) (w : Wellformed t) where
   unfolding checks grown
   leads-caps done [] k n e = ap someCaps (sym (e ∙ append-nil done))
   leads-caps done (c ∷ rest) k n e =
-      let few : length done < 6 = omega (arith, below (t .caps) done rest c e, w .six-caps) in
+      let few : length done < technologies = omega (arith, below (t .caps) done rest c e, w .six-caps) in
       let some = lt-ltb 0 (length (t .entities)) (w .some-entity) in
-      let may : mayCap (someCaps done) k ≡ true = rw (some, lt-ltb (length done) 6 few) (eq-eqb k (length done + 1) n) in
+      let may : capPlace (length (t .entities)) (length done) k ≡ true = rw (some, lt-ltb (length done) technologies few) (eq-eqb k (length done + 1) n) in
       let next : suc k ≡ length (done ++ (c ∷ [])) + 1 = rw length-append (omega arith) in
-      (one-kept _ 3 [] may none-broken, leads-caps (done ++ (c ∷ [])) rest (suc k) next (e ∙ sym (append-snoc done c rest)))
+      (one-kept _ outOfSequence [] may none-broken, leads-caps (done ++ (c ∷ [])) rest (suc k) next (e ∙ sym (append-snoc done c rest)))
 
-  leads-filters : Leads (someFilters []) (map aFilter (t .filters)) (someRows [])
+  leads-filters : Leads (someFilters []) (map (aFrame ofFilter) (t .filters)) (someRows [])
   unfolding checks grown
   leads-filters =
-      leads-from aFilter someFilters (t .filters)
+      leads-from (aFrame ofFilter) someFilters (t .filters)
       (λ done f rest q.
       let b = below (t .filters) done rest f q in
-      let few : length done < 32 = omega (arith, b, w .few-filters) in
+      let few : length done < mostFilters = omega (arith, b, w .few-filters) in
       let rule : FilterRule t f = rw (seam (t .filters) done rest f q noFilter) at (w .filter (length done) b) in
-      (one-kept _ 3 _ (lt-ltb (length done) 32 few) (filter-passes t f rule), refl))
+      (one-kept _ outOfSequence _ (lt-ltb (length done) mostFilters few) (filter-passes t f rule), refl))
       [] (t .filters) refl
 
   leads-rows : Leads (someRows []) (map aRow (t .rows)) (someRows (t .rows))
@@ -170,16 +179,16 @@ module _ (t : Table) (w : Wellformed t) where
       leads-from aRow someRows (t .rows)
       (λ done r rest q.
       let b = below (t .rows) done rest r q in
-      let few : length done < 64 = omega (arith, b, w .few-rows) in
+      let few : length done < mostRows = omega (arith, b, w .few-rows) in
       let rule : RowRule t r = rw (seam (t .rows) done rest r q noRow) at (w .row (length done) b) in
-      (one-kept _ 3 _ (lt-ltb (length done) 64 few) (row-passes t r rule), refl))
+      (one-kept _ outOfSequence _ (lt-ltb (length done) mostRows few) (row-passes t r rule), refl))
       [] (t .rows) refl
 
   pub leads-table : Leads nothing (framesOf t) (record { table = t; floored = 1 })
   unfolding checks grown
   leads-table =
-      leads-append nothing (someEntities (t .entities)) (someRows (t .rows)) (map anEntity (t .entities)) _ leads-entities
+      leads-append nothing (someEntities (t .entities)) (someRows (t .rows)) (map (aFrame ofEntity) (t .entities)) _ leads-entities
       (leads-append (someCaps []) (someCaps (t .caps)) (someRows (t .rows)) (capFrames 1 (t .caps)) _ (leads-caps [] (t .caps) 1 refl refl) (
-        one-kept (mayFloor (someCaps (t .caps))) 3 [] (rw (eq-eqb _ _ (w .six-caps))) none-broken,
-        leads-append (someFilters []) (someRows []) (someRows (t .rows)) (map aFilter (t .filters)) _ leads-filters leads-rows,
+        one-kept (floorPlace (length (t .caps)) 0) outOfSequence [] (rw (eq-eqb _ _ (w .six-caps))) none-broken,
+        leads-append (someFilters []) (someRows []) (someRows (t .rows)) (map (aFrame ofFilter) (t .filters)) _ leads-filters leads-rows,
       ))

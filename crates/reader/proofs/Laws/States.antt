@@ -1,72 +1,86 @@
--- Laws of the reader's states: what a frame does, by the first condition that it breaks; how the things tell the lines; a refusal
--- stays; a run of lines in two parts.
+-- Laws of the reader's states:
+--   faultless, faulty, no-frame: what a frame does, by whether a condition is broken
+--   fitOf, fitted, frame-misfit, frame-content, frame-grown: the conditions of a frame of any kind, and what it adds
+--   kind-own, kind-other: which kind a kind byte is
+--   run-refused: a refusal stays
 -- Assumes nothing.
 use mathlib.Core.Path.{_≡_, refl}
 use mathlib.Core.Bool.{Bool, true, false}
-use mathlib.Core.List.{List, [], _∷_, _++_}
+use mathlib.Core.List.{List, [], _∷_}
 use Prim.Native.Nat.{ℕ, suc}
 use native.Mathlib.Omega.{arith}
-use lib.ListN.{length-append}
 use borrow.Author.Tests.{ne-eqb}
-use Rattle.policy.specs.Model.{Entity, Coefficients, Filter, Row}
-use Rattle.frames.specs.Checks.{Check, or-else, refusal}
-use Rattle.frames.proofs.Laws.Checks.{refusal-holds, refusal-broken, one-kept}
-use Rattle.reader.specs.Frames.{Frame, anEntity, aCap, aFloor, aFilter, aRow, noFrame}
-use Rattle.reader.specs.States.{Progress, State, reading, refused, checks, grown, takeFrame, step, run}
-use Rattle.reader.specs.Views.{things}
+use Rattle.base.specs.Checks.{refusal}
+use Rattle.base.proofs.Laws.Checks.{refusal-broken}
+use Rattle.frames.specs.Refusals.{wrongForm}
+use Rattle.frames.specs.Progress.{Progress, misfitOf}
+use Rattle.frames.specs.Kinds.{FrameName, ofEntity, ofCap, ofFloor, ofFilter, ofRow, describe}
+use Rattle.frames.proofs.Laws.Parts.{misfit-none}
+use Rattle.reader.specs.Frames.{Frame, noFrame, frameIn, frameOfKind}
+use Rattle.reader.specs.States.{reading, refused, checks, grown, takeFrame, step, run}
 
--- ---- a frame, by the first condition that it breaks
+-- ---- a frame
 
-module _ (n : ℕ) (p : Progress) where
-  pub no-frame : takeFrame n p noFrame ≡ refused 2 (suc n)
-  unfolding takeFrame checks
-  no-frame = rw (refusal-broken false 2 [] refl)
+module _ (n : ℕ) (p : Progress) (f : Frame) where
+  pub faultless : refusal (checks p f) ≡ 0 → takeFrame n p f ≡ reading (suc n) (grown p f)
+  unfolding takeFrame
+  faultless h = rw h
 
-  module _ (f : Frame) (b : Bool) (cs : List Check) (e : checks p f ≡ or-else b 3 ∷ cs) where
-    pub misplaced : b ≡ false → takeFrame n p f ≡ refused 3 (suc n)
-    unfolding takeFrame
-    misplaced h = rw (e, refusal-broken b 3 cs h)
+  pub faulty : (m : ℕ) → refusal (checks p f) ≡ m → (m ≡ 0 → ⊥) → takeFrame n p f ≡ refused m (suc n)
+  unfolding takeFrame
+  faulty m h z = rw (h, ne-eqb m 0 z)
 
-    pub broken : (k : ℕ) → b ≡ true → refusal cs ≡ k → (k ≡ 0 → ⊥) → takeFrame n p f ≡ refused k (suc n)
-    unfolding takeFrame
-    broken k h q z = rw (e, refusal-holds b 3 cs h, q, ne-eqb k 0 z)
+-- A line that is no frame.
+pub no-frame : (n : ℕ) (p : Progress) → takeFrame n p noFrame ≡ refused wrongForm (suc n)
+unfolding checks
+no-frame n p = faulty n p noFrame wrongForm (refusal-broken false wrongForm [] refl) (λ z. omega arith)
 
-    pub faultless : b ≡ true → refusal cs ≡ 0 → takeFrame n p f ≡ reading (suc n) (grown p f)
-    unfolding takeFrame
-    faultless h q = rw (e, one-kept b 3 cs h q)
+-- ---- a frame of some kind, from the bytes after its kind byte
 
--- ---- the things tell the lines
+module _ (p : Progress) (k : FrameName) (bs : List ℕ) where
+  -- The number that refuses it for its form or its place, or 0.
+  abbrev pub fitOf : ℕ
+  fitOf = misfitOf (describe k .long bs) (describe k .placed p (describe k .value bs))
 
-module _ (p : Progress) where
-  pub things-entity : (e : Entity) → things (grown p (anEntity e)) ≡ suc (things p)
+  -- What is not refused so has its length and its place.
+  pub fitted : fitOf ≡ 0 → (describe k .long bs ≡ true) × (describe k .placed p (describe k .value bs) ≡ true)
+  fitted h = misfit-none (describe k .long bs) (describe k .placed p (describe k .value bs)) h
+
+  pub frame-misfit : (fitOf ≡ 0 → ⊥) → refusal (checks p (frameIn k bs)) ≡ fitOf
+  unfolding checks refusal
+  frame-misfit n = go (describe k .long bs) (describe k .placed p (describe k .value bs)) refl refl
+    where
+      go : (l b : Bool) → describe k .long bs ≡ l → describe k .placed p (describe k .value bs) ≡ b → refusal (checks p (frameIn k bs)) ≡ fitOf
+      go false b e f = rw e
+      go true false e f = rw (e, f)
+      go true true e f = absurd (n (rw (e, f)))
+
+  pub frame-content : fitOf ≡ 0 → refusal (checks p (frameIn k bs)) ≡ refusal (describe k .content (p .table) (describe k .value bs))
+  unfolding checks refusal
+  frame-content h = let fit = fitted h in rw (fit .0, fit .1)
+
+  pub frame-grown : fitOf ≡ 0 → grown p (frameIn k bs) ≡ describe k .grown (describe k .value bs) p
   unfolding grown
-  things-entity e = simp length-append (omega arith)
+  frame-grown h = rw (fitted h .0)
 
-  pub things-cap : (t : ℕ) (c : Coefficients) → things (grown p (aCap t c)) ≡ suc (things p)
-  unfolding grown
-  things-cap t c = simp length-append (omega arith)
+-- ---- kind bytes
 
-  pub things-floor : (c : Coefficients) → p .floored ≡ 0 → things (grown p (aFloor c)) ≡ suc (things p)
-  unfolding grown
-  things-floor c h = omega arith
+pub kind-own : (k : FrameName) (bs : List ℕ) → frameOfKind (describe k .byte) bs ≡ frameIn k bs
+unfolding frameOfKind
+kind-own ofEntity bs = refl
+kind-own ofCap bs = refl
+kind-own ofFloor bs = refl
+kind-own ofFilter bs = refl
+kind-own ofRow bs = refl
 
-  pub things-filter : (f : Filter) → things (grown p (aFilter f)) ≡ suc (things p)
-  unfolding grown
-  things-filter f = simp length-append (omega arith)
-
-  pub things-row : (r : Row) → things (grown p (aRow r)) ≡ suc (things p)
-  unfolding grown
-  things-row r = simp length-append (omega arith)
+-- Any other kind is no frame's.
+pub kind-other : (k : ℕ) (bs : List ℕ) → (k ≡ 1 → ⊥) → (k ≡ 2 → ⊥) → (k ≡ 3 → ⊥) → (k ≡ 4 → ⊥) → (k ≡ 5 → ⊥) → frameOfKind k bs ≡ noFrame
+unfolding frameOfKind
+kind-other k bs a b c d e = rw (ne-eqb k 1 a, ne-eqb k 2 b, ne-eqb k 3 c, ne-eqb k 4 d, ne-eqb k 5 e)
 
 -- ---- runs of lines
 
--- A refusal stays.
 pub run-refused : (k n : ℕ) (lines : List (List ℕ)) → run (refused k n) lines ≡ refused k n
 unfolding run step
 run-refused k n [] = refl
 run-refused k n (line ∷ lines) = run-refused k n lines
-
-pub run-append : (s : State) (a b : List (List ℕ)) → run s (a ++ b) ≡ run (run s a) b
-unfolding run
-run-append s [] b = refl
-run-append s (line ∷ a) b = run-append (step s line) a b

@@ -1,168 +1,88 @@
--- What a reader comes to by a frame: refused for its length, its place in the sequence or its content, or with its value. For each kind,
--- the length, the place and the content that are tested. And what it comes to by a line.
+-- What a reader comes to by a line:
+--   Fit, Content: the numbers that refuse a line of some kind
+--   fit-by, content-by: what the tests that were made tell of them
+--   has-form, has-room: a line that is not refused for them has its length and its place
+--   by-misfit, by-content, by-value: what the reader comes to, refused or with the line's value
+--   step-no-line, step-line: by whether the line is pairs of digits, and by its kind byte
 -- Assumes nothing.
-use mathlib.Core.Path.{_≡_, refl, sym}
+use mathlib.Core.Path.{_≡_, sym, ap, _∙_}
 use mathlib.Core.Bool.{Bool, true, false}
-use mathlib.Core.List.{List, [], _∷_}
-use Prim.Native.Nat.{ℕ, suc, _*_, _≤_}
-use native.Mathlib.Omega.{arith}
-use borrow.Author.Tests.{eqb-true, eq-eqb, ne-eqb}
-use lib.Dec.{eqb}
-use lib.ListN.{length, getD, drop}
-use Rattle.hex.specs.Digits.{pick}
+use mathlib.Core.List.{List}
+use Prim.Native.Nat.{ℕ, suc, _≤_}
+use borrow.Author.Tests.{eq-eqb}
+use lib.ListN.{getD, drop}
+use Rattle.base.specs.Checks.{refusal}
 use Rattle.hex.specs.Lines.{isLine, bytesOf}
-use Rattle.hex.proofs.Laws.Lines.{length-bytesOf, bytesOf-line}
-use Rattle.policy.specs.Model.{parentsOf, layersOf}
-use Rattle.frames.specs.Checks.{Check, or-else, refusal}
-use Rattle.frames.specs.Values.{entityLength, entityFrom, capLength, capTechnology, capFrom, floorLength, floorFrom, filterLength, filterFrom, rowLength, rowFrame}
-use Rattle.frames.specs.Rules.{entityContent, filterContent, rowContent}
-use Rattle.reader.specs.Frames.{Frame, anEntity, aCap, aFloor, aFilter, aRow, noFrame, frameOfKind, frameOf}
-use Rattle.reader.specs.States.{Progress, reading, refused, mayEntity, mayCap, mayFloor, mayFilter, mayRow, checks, grown, takeFrame, step}
-use Rattle.reader.specs.Views.{progressOf, things, stateOf, Reads}
+use Rattle.hex.proofs.Laws.Lines.{bytesOf-line}
+use Rattle.policy.specs.Views.{tableOf, Stands}
+use Rattle.frames.specs.Refusals.{noLine}
+use Rattle.frames.specs.Progress.{linesRead, misfitOf}
+use Rattle.frames.specs.Kinds.{FrameName, describe}
+use Rattle.frames.proofs.Laws.Kinds.{lawful}
+use Rattle.reader.specs.Frames.{frameOfKind, frameOf, frameIn}
+use Rattle.reader.specs.States.{reading, refused, checks, takeFrame, step}
+use Rattle.reader.specs.Views.{progressOf, stateOf, stateWith, Reads}
 use Rattle.reader.specs.declared.Reader.{Reader}
-use Rattle.reader.proofs.Laws.States.{no-frame, misplaced, broken, faultless}
-use Rattle.reader.proofs.Laws.Readers.{moved}
+use Rattle.reader.proofs.Laws.States.{faultless, faulty, fitOf, fitted, frame-misfit, frame-content, frame-grown}
+use Rattle.reader.proofs.Laws.Readers.{moved, reads}
 
--- A frame of some kind: what it is if it has its length, whether the sequence can go on with it, and its content's rules.
-pub record Taking (p : Progress) (g : Frame) : Type 0 where
-  pub frame : Frame
-  pub long : Bool
-  pub placed : Bool
-  pub content : List Check
-  pub kind : g ≡ pick long frame noFrame
-  pub asked : checks p frame ≡ or-else placed 3 ∷ content
+-- ---- a line of the kind k with the bytes bs after its kind byte, after what the reader r has read
 
-module _ {p : Progress} {g : Frame} (t : Taking p g) (n : ℕ) {r : Reader} where
-  pub by-length : t .long ≡ false → Reads r (refused 2 (suc n)) → Reads r (takeFrame n p g)
-  by-length h x = rw (t .kind, h) (moved x (sym (no-frame n p)))
+-- The number n refuses it for its form or its place, or is 0.
+pub record Fit (r : Reader) (k : FrameName) (bs : List ℕ) (n : ℕ) : Type 0 where
+  pub same : fitOf (progressOf r) k bs ≡ n
 
-  pub by-sequence : t .long ≡ true → t .placed ≡ false → Reads r (refused 3 (suc n)) → Reads r (takeFrame n p g)
-  by-sequence h b x = rw (t .kind, h) (moved x (sym (misplaced n p (t .frame) (t .placed) (t .content) (t .asked) b)))
+-- The number n refuses it for its content, or is 0.
+pub record Content (r : Reader) (k : FrameName) (bs : List ℕ) (n : ℕ) : Type 0 where
+  pub same : refusal (describe k .content (tableOf (r .table)) (describe k .value bs)) ≡ n
 
-  pub by-content : (k : ℕ) → t .long ≡ true → t .placed ≡ true → refusal (t .content) ≡ k → (k ≡ 0 → ⊥) → Reads r (refused k (suc n))
-      → Reads r (takeFrame n p g)
-  by-content k h b q z x = rw (t .kind, h) (moved x (sym (broken n p (t .frame) (t .placed) (t .content) (t .asked) k b q z)))
+module _ (r : Reader) (k : FrameName) (bs : List ℕ) where
+  -- by the tests that were made
+  pub fit-by : (long placed : Bool) {n : ℕ} → long ≡ describe k .long bs → placed ≡ describe k .placed (progressOf r) (describe k .value bs)
+      → n ≡ misfitOf long placed → Fit r k bs n
+  fit-by long placed e f h = record { same = rw (← e, ← f) (sym h) }
 
-  pub by-none : t .long ≡ true → t .placed ≡ true → refusal (t .content) ≡ 0 → Reads r (reading (suc n) (grown p (t .frame)))
-      → Reads r (takeFrame n p g)
-  by-none h b q x = rw (t .kind, h) (moved x (sym (faultless n p (t .frame) (t .placed) (t .content) (t .asked) b q)))
+  -- by rules over numbers that are the table's, of what the value stands for
+  pub content-by : {A : Type 0} {l m : List ℕ} {v w : A} {n : ℕ} (f : List ℕ → A → ℕ) → l ≡ m → w ≡ v → n ≡ f m w
+      → f l v ≡ refusal (describe k .content (tableOf (r .table)) (describe k .value bs)) → Content r k bs n
+  content-by f e g h q = record { same = cc }
 
--- ---- the kinds
+module _ {r : Reader} {k : FrameName} {bs : List ℕ} {n : ℕ} (x : Fit r k bs n) where
+  pub has-form : n ≡ 0 → describe k .long bs ≡ true
+  has-form h = fitted (progressOf r) k bs (x .same ∙ h) .0
 
-module _ (p : Progress) (bs : List ℕ) where
-  pub kind-entity : frameOfKind 1 bs ≡ pick (entityLength bs) (anEntity (entityFrom bs)) noFrame
-  unfolding frameOfKind
-  kind-entity = refl
+  pub has-room : n ≡ 0 → describe k .placed (progressOf r) (describe k .value bs) ≡ true
+  has-room h = fitted (progressOf r) k bs (x .same ∙ h) .1
 
-  pub asked-entity : checks p (anEntity (entityFrom bs)) ≡ or-else (mayEntity p) 3 ∷ (entityContent (layersOf (p .table)) (entityFrom bs))
-  unfolding checks
-  asked-entity = refl
+  pub by-misfit : {q : Reader} → (n ≡ 0 → ⊥) → Reads q (refused n (suc (linesRead (progressOf r)))) → Reads q (stateWith r k bs)
+  by-misfit z h =
+      let e = frame-misfit (progressOf r) k bs (λ e. z (sym (x .same) ∙ e)) ∙ x .same in
+      moved h (sym (faulty (linesRead (progressOf r)) (progressOf r) (frameIn k bs) n e z))
 
-  abbrev pub taking-entity : Taking p (frameOfKind 1 bs)
-  taking-entity =
-      record {
-        frame = anEntity (entityFrom bs);
-        long = entityLength bs;
-        placed = mayEntity p;
-        content = entityContent (layersOf (p .table)) (entityFrom bs);
-        kind = kind-entity;
-        asked = asked-entity;
-      }
+  module _ (fit : n ≡ 0) {m : ℕ} (c : Content r k bs m) where
+    checked : refusal (checks (progressOf r) (frameIn k bs)) ≡ m
+    checked = frame-content (progressOf r) k bs (x .same ∙ fit) ∙ c .same
 
-  pub kind-cap : frameOfKind 2 bs ≡ pick (capLength bs) (aCap (capTechnology bs) (capFrom bs)) noFrame
-  unfolding frameOfKind
-  kind-cap = refl
+    pub by-content : {q : Reader} → (m ≡ 0 → ⊥) → Reads q (refused m (suc (linesRead (progressOf r)))) → Reads q (stateWith r k bs)
+    by-content z h = moved h (sym (faulty (linesRead (progressOf r)) (progressOf r) (frameIn k bs) m checked z))
 
-  pub asked-cap : checks p (aCap (capTechnology bs) (capFrom bs)) ≡ or-else (mayCap p (capTechnology bs)) 3 ∷ []
-  unfolding checks
-  asked-cap = refl
-
-  abbrev pub taking-cap : Taking p (frameOfKind 2 bs)
-  taking-cap =
-      record {
-        frame = aCap (capTechnology bs) (capFrom bs);
-        long = capLength bs;
-        placed = mayCap p (capTechnology bs);
-        content = [];
-        kind = kind-cap;
-        asked = asked-cap;
-      }
-
-  pub kind-floor : frameOfKind 3 bs ≡ pick (floorLength bs) (aFloor (floorFrom bs)) noFrame
-  unfolding frameOfKind
-  kind-floor = refl
-
-  pub asked-floor : checks p (aFloor (floorFrom bs)) ≡ or-else (mayFloor p) 3 ∷ []
-  unfolding checks
-  asked-floor = refl
-
-  abbrev pub taking-floor : Taking p (frameOfKind 3 bs)
-  taking-floor =
-      record {
-        frame = aFloor (floorFrom bs);
-        long = floorLength bs;
-        placed = mayFloor p;
-        content = [];
-        kind = kind-floor;
-        asked = asked-floor;
-      }
-
-  pub kind-filter : frameOfKind 4 bs ≡ pick (filterLength bs) (aFilter (filterFrom bs)) noFrame
-  unfolding frameOfKind
-  kind-filter = refl
-
-  pub asked-filter : checks p (aFilter (filterFrom bs)) ≡ or-else (mayFilter p) 3 ∷ (filterContent (parentsOf (p .table)) (filterFrom bs))
-  unfolding checks
-  asked-filter = refl
-
-  abbrev pub taking-filter : Taking p (frameOfKind 4 bs)
-  taking-filter =
-      record {
-        frame = aFilter (filterFrom bs);
-        long = filterLength bs;
-        placed = mayFilter p;
-        content = filterContent (parentsOf (p .table)) (filterFrom bs);
-        kind = kind-filter;
-        asked = asked-filter;
-      }
-
-  pub kind-row : frameOfKind 5 bs ≡ pick (rowLength bs) (aRow (rowFrame bs)) noFrame
-  unfolding frameOfKind
-  kind-row = refl
-
-  pub asked-row : checks p (aRow (rowFrame bs)) ≡ or-else (mayRow p) 3 ∷ (rowContent (parentsOf (p .table)) (rowFrame bs))
-  unfolding checks
-  asked-row = refl
-
-  abbrev pub taking-row : Taking p (frameOfKind 5 bs)
-  taking-row =
-      record {
-        frame = aRow (rowFrame bs);
-        long = rowLength bs;
-        placed = mayRow p;
-        content = rowContent (parentsOf (p .table)) (rowFrame bs);
-        kind = kind-row;
-        asked = asked-row;
-      }
-
--- Any other kind is no frame's.
-pub kind-other : (k : ℕ) (bs : List ℕ) → (k ≡ 1 → ⊥) → (k ≡ 2 → ⊥) → (k ≡ 3 → ⊥) → (k ≡ 4 → ⊥) → (k ≡ 5 → ⊥) → frameOfKind k bs ≡ noFrame
-unfolding frameOfKind
-kind-other k bs a b c d e = rw (ne-eqb k 1 a, ne-eqb k 2 b, ne-eqb k 3 c, ne-eqb k 4 d, ne-eqb k 5 e)
+    pub by-value : {q : Reader} → m ≡ 0 → q .number ≡ 0 → Stands (q .table) (describe k .grown (describe k .value bs) (progressOf r) .table)
+        → q .floored ≡ describe k .grown (describe k .value bs) (progressOf r) .floored
+        → describe k .grown (describe k .value bs) (progressOf r) .floored ≤ 1 → Reads q (stateWith r k bs)
+    by-value {q} z a s f b =
+        let p = progressOf r in
+        moved (reads q (describe k .grown (describe k .value bs) p) (suc (linesRead p)) a s f b (lawful k .one-line p (describe k .value bs) (has-room fit)))
+        (sym (faultless (linesRead p) p (frameIn k bs) (checked ∙ z) ∙ ap (reading (suc (linesRead p))) (frame-grown p k bs (x .same ∙ fit))))
 
 -- ---- a line, for a reader that is not refused
 
 module _ (r : Reader) (line : List ℕ) (going : r .number ≡ 0) where
-  pub step-no-line : isLine line ≡ false → step (stateOf r) line ≡ refused 1 (suc (things (progressOf r)))
+  pub step-no-line : isLine line ≡ false → step (stateOf r) line ≡ refused noLine (suc (linesRead (progressOf r)))
   unfolding step
   step-no-line h = rw (eq-eqb (r .number) 0 going) (rw h)
 
   -- The first byte is the kind, and the frame's bytes are those of the line after its first two characters.
-  pub step-line : isLine line ≡ true → (k : ℕ) → k ≡ getD (bytesOf line) 0 0
-      → step (stateOf r) line ≡ takeFrame (things (progressOf r)) (progressOf r) (frameOfKind k (bytesOf (drop 2 line)))
+  pub step-line : isLine line ≡ true → (byte : ℕ) → byte ≡ getD (bytesOf line) 0 0
+      → step (stateOf r) line ≡ takeFrame (linesRead (progressOf r)) (progressOf r) (frameOfKind byte (bytesOf (drop 2 line)))
   unfolding step frameOf
-  step-line h k e = rw (eq-eqb (r .number) 0 going) (rw (h, bytesOf-line line h, ← e))
-
--- A frame of so many bytes has its characters.
-pub bytes-there : (l : List ℕ) (n : ℕ) → eqb (length (bytesOf l)) n ≡ true → 2 * n ≤ length l
-bytes-there l n h = let e : length (bytesOf l) ≡ n = eqb-true (length (bytesOf l)) n h in let k = length-bytesOf l in omega arith
+  step-line h byte e = rw (eq-eqb (r .number) 0 going) (rw (h, bytesOf-line line h, ← e))

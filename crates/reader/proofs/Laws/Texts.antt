@@ -6,22 +6,30 @@
 --   accepted-text-other-rows, accepted-text-more-rows: other rows in place of an accepted text's own, and rows after it
 -- Assumes nothing.
 use mathlib.Core.Path.{_≡_, refl, ap, sym, _∙_}
+use mathlib.Core.Logic.{inl, inr}
 use mathlib.Core.Bool.{true, false≢true, and-eq-true-iff}
-use mathlib.Core.List.{List, [], _∷_, _++_, append-nil, append-assoc}
-use Prim.Native.Nat.{ℕ, zero, suc, _+_, _-_, _≤_}
+use mathlib.Core.List.{List, [], _∷_, _++_, map, map-append, append-nil, append-assoc, List·Memᴰ·head, List·Memᴰ·tail, List·Memᴰ·append-cases}
+use Prim.Native.Nat.{ℕ, _+_, _-_, _<_, _≤_}
 use native.Mathlib.Decide.{ℕ-discrete}
 use native.Mathlib.Omega.{arith}
 use borrow.Author.Tests.{ne-eqb}
-use lib.ListN.{length, take}
-use lib.Seq.{append-snoc, take-all}
+use lib.ListN.{length, getD, take, length-append}
+use lib.Seq.{append-snoc}
+use Rattle.base.specs.Answers.{returned}
 use Rattle.hex.specs.Digits.{isDigit}
 use Rattle.hex.specs.Lines.{allDigits, isLine}
 use Rattle.hex.proofs.Laws.Lines.{line-digits, feed-no-digit}
-use Rattle.policy.specs.Model.{Row, Table, parentsOf}
+use Rattle.policy.specs.Limits.{mostRows}
+use Rattle.policy.specs.Model.{Row, Table, withRows, noRow, parentsOf}
+use Rattle.policy.specs.Wellformed.{RowRule, Wellformed}
+use Rattle.policy.proofs.Laws.Changed.{wellformed-rows}
+use Rattle.base.proofs.Laws.Each.{each-append}
 use Rattle.reader.specs.Lines.{lineFeed, linesFrom, restFrom, linesOf, restOf, textOf}
-use Rattle.reader.specs.States.{Progress, reading, nothing, run, accepted, finish, parse}
-use Rattle.reader.proofs.Laws.States.{run-append}
-use Rattle.reader.proofs.Laws.Rows.{RowFrames, RowLines, tableWithRows, run-rows, accepted-rows, accepted-other-rows}
+use Rattle.reader.specs.States.{parse}
+use Rattle.reader.specs.Rules.{framesOf}
+use Rattle.reader.proofs.Laws.Wellformed.{accepted-wellformed}
+use Rattle.reader.proofs.Laws.Rules.{lineFrame, Digits, accepted-exactly}
+use Rattle.reader.proofs.Laws.Rows.{RowLines, rows-counted, rows-said, rows-digits, rows-kept, rows-apart, accepted-rows}
 
 -- ---- no line feed
 
@@ -34,11 +42,6 @@ module _ {A : Type 0} (P : A → Type 0) where
   every-append : (a b : List A) → Every a → Every b → Every (a ++ b)
   every-append [] b h k = k
   every-append (x ∷ a) b h k = (h .0, every-append a b (h .1) k)
-
-  every-take : (n : ℕ) (l : List A) → Every l → Every (take n l)
-  every-take zero l h = tt
-  every-take (suc n) [] h = tt
-  every-take (suc n) (x ∷ l) h = (h .0, every-take n l (h .1))
 
 abbrev pub NotFeed : ℕ → Type 0
 NotFeed c = c ≡ lineFeed → ⊥
@@ -123,40 +126,46 @@ digits-clean (c ∷ l) h =
 pub line-clean : (l : List ℕ) → isLine l ≡ true → NoFeed l
 line-clean l h = digits-clean l (line-digits l h)
 
-rows-clean : (parents : List ℕ) (ls : List (List ℕ)) (rs : List Row) → RowFrames parents ls rs → AllNoFeed ls
-rows-clean parents [] [] h = tt
-rows-clean parents [] (r ∷ rs) h = absurd h
-rows-clean parents (l ∷ ls) [] h = absurd h
-rows-clean parents (l ∷ ls) (r ∷ rs) h = (line-clean l (h .0 .line), rows-clean parents ls rs (h .1))
+lines-clean-digits : (ls : List (List ℕ)) → Digits ls → AllNoFeed ls
+lines-clean-digits [] d = tt
+lines-clean-digits (l ∷ ls) d = (line-clean l (d l (List·Memᴰ·head refl)), lines-clean-digits ls (λ m k. d m (List·Memᴰ·tail k)))
 
 -- ---- accepted texts
 
--- A text that is written of lines, the last of them rows, is read line by line.
-parse-written : (t : Table) (a ls : List (List ℕ)) (rs : List Row) → AllNoFeed a → RowLines t ls rs
-    → parse (textOf (a ++ ls)) ≡ finish (run (reading 0 nothing) (a ++ ls)) []
-unfolding parse
-parse-written t a ls rs f h =
-    let clean = every-append NoFeed a ls f (rows-clean (parentsOf t) ls rs h) in
-    rw (lines-written (a ++ ls) clean, rest-written (a ++ ls) clean)
+-- Lines that say the table with some rows, and row lines after them, at most 64 in all: their text is the table with all those rows.
+module _ (t : Table) (w : Wellformed t) (done : List Row) (kept : (k : ℕ) → k < length done → RowRule t (getD done k noRow))
+    (a ls : List (List ℕ)) (rs : List Row) (d : Digits a) (f : map lineFrame a ≡ framesOf (withRows done t))
+    (b : length done + length ls ≤ mostRows) (h : RowLines t ls rs) where
+  digits : Digits (a ++ ls)
+  digits l m = elim (List·Memᴰ·append-cases a m) [ inl k ↦ d l k | inr k ↦ rows-digits (parentsOf t) ls rs h l k ]
 
-module _ (text : List ℕ) (t : Table) (e : parse text ≡ accepted t) (ls : List (List ℕ)) (rs : List Row) where
+  parse-rows : parse (textOf (a ++ ls)) ≡ returned (withRows (done ++ rs) t)
+  parse-rows =
+      let clean = lines-clean-digits (a ++ ls) digits in
+      let lines = lines-written (a ++ ls) clean in
+      let long = rows-counted (parentsOf t) ls rs h in
+      let few : length (done ++ rs) ≤ mostRows = rw length-append (omega arith) in
+      accepted-exactly (textOf (a ++ ls)) (withRows (done ++ rs) t) .1
+      (record {
+        ended = rest-written (a ++ ls) clean;
+        digits = rw lines digits;
+        frames = rw lines (map-append lineFrame a ls ∙ cc (f, rows-said (parentsOf t) ls rs h, rows-apart t done rs));
+        well = wellformed-rows w (done ++ rs) few (each-append (RowRule t) done rs noRow kept (rows-kept t ls rs h));
+      })
+
+module _ (text : List ℕ) (t : Table) (e : parse text ≡ returned t) (ls : List (List ℕ)) (rs : List Row) where
   -- An accepted text, with other row lines in place of its own, gives the same table with those rows.
-  pub accepted-text-other-rows : length ls ≤ 64 → RowLines t ls rs
-      → parse (textOf (take (length (linesOf text) - length (t .rows)) (linesOf text) ++ ls)) ≡ accepted (tableWithRows rs t)
+  pub accepted-text-other-rows : length ls ≤ mostRows → RowLines t ls rs
+      → parse (textOf (take (length (linesOf text) - length (t .rows)) (linesOf text) ++ ls)) ≡ returned (withRows rs t)
   accepted-text-other-rows b h =
-      let early = length (linesOf text) - length (t .rows) in
-      parse-written t (take early (linesOf text)) ls rs (every-take NoFeed early (linesOf text) (lines-clean text)) h
-      ∙ accepted-other-rows text t e ls rs b h
+      let a = accepted-rows text t e in
+      parse-rows t (accepted-wellformed text t e) [] (λ k l. absurd (omega arith)) _ ls rs (a .digits) (a .others) (omega arith) h
 
   -- Row lines that follow an accepted text give the rows more.
-  pub accepted-text-more-rows : length (t .rows) + length ls ≤ 64 → RowLines t ls rs
-      → parse (text ++ textOf ls) ≡ accepted (tableWithRows (t .rows ++ rs) t)
-  unfolding finish
+  pub accepted-text-more-rows : length (t .rows) + length ls ≤ mostRows → RowLines t ls rs
+      → parse (text ++ textOf ls) ≡ returned (withRows (t .rows ++ rs) t)
   accepted-text-more-rows b h =
-      let a = accepted-rows text t e in
-      let p : Progress = record { table = t; floored = 1 } in
-      let ended = take-all 0 (restOf text) (omega arith) in
-      let whole : textOf (linesOf text) ≡ text = rw (← ended, append-nil) at (text-cut text) in
+      let k = accepted-exactly text t .0 e in
+      let whole : textOf (linesOf text) ≡ text = rw (k .ended, append-nil) at (text-cut text) in
       ap parse (sym (text-append (linesOf text) ls ∙ ap (λ l. l ++ textOf ls) whole))
-      ∙ parse-written t (linesOf text) ls rs (lines-clean text) h
-      ∙ rw (run-append (reading 0 nothing) (linesOf text) ls, a .read, run-rows (length (linesOf text)) p ls rs refl b h)
+      ∙ parse-rows t (k .well) (t .rows) (k .well .row) (linesOf text) ls rs (k .digits) (k .frames) b h

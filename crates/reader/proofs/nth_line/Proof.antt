@@ -72,20 +72,5 @@ none c =
 pub nth-line-spec : {M : Type 1} → statement M
 nth-line-spec =
     tie.close
-    (tie.spec
-    I
-    μ
-    (λ c. search needs)
-    (λ c. search needs)
-    (λ c. search needs)
-    (λ c. search needs)
-    (λ c. search needs)
-    (λ c. search needs)
-    found
-    (λ c. search needs)
-    (λ c. search needs)
-    again
-    (λ c. search needs)
-    other
-    (λ c. search needs)
-    none)
+    (tie.spec I μ (λ c. search needs) (λ c. search needs) (λ c. search needs) (λ c. search needs) (λ c. search needs) (λ c. search needs) found
+    (λ c. search needs) (λ c. search needs) again (λ c. search needs) other (λ c. search needs) none)

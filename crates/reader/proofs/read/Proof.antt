@@ -7,7 +7,9 @@ use Prim.Native.Nat.{ℕ, _+_, _-_, _≤_}
 use denote.Ref.{now}
 use lib.ListN.{length, take, drop}
 use Rattle.reader.specs.Lines.{linesFrom, restFrom}
-use Rattle.reader.specs.States.{State, Parsed, run, finish, parse}
+use Rattle.base.specs.Answers.{Answer}
+use Rattle.policy.specs.Model.{Table}
+use Rattle.reader.specs.States.{State, run, finish, parse}
 use Rattle.reader.specs.Views.{stateOf, Ready}
 use Rattle.reader.proofs.Laws.Lines.{lines-feed, rest-feed, lines-other, rest-other, lines-end, rest-end, grown-line}
 use Rattle.reader.proofs.Laws.Readers.{going, parses-refused, parses-moved}
@@ -15,7 +17,7 @@ use Rattle.reader.proofs.read.Statement.{statement}
 use Rattle.reader.proofs.read.Tie as tie
 
 -- what the text is, from place i on, with the line that began
-abbrev onward : State → List ℕ → List ℕ → ℕ → Parsed
+abbrev onward : State → List ℕ → List ℕ → ℕ → Answer Table
 onward s line text i = finish (run s (linesFrom line (drop i text))) (restFrom line (drop i text))
 
 abbrev begun : List ℕ → ℕ → ℕ → List ℕ
@@ -84,24 +86,6 @@ end c =
 pub read-spec : {M : Type 1} → statement M
 read-spec =
     tie.close
-    (tie.spec
-    I
-    μ
-    (λ c κs. search needs)
-    starts
-    (λ c. search needs)
-    (λ c. search needs)
-    (λ c. search needs)
-    (λ c. search needs)
-    (λ c. search needs)
-    (λ c κs. search needs)
-    refused
-    (λ c. search needs)
-    again
-    (λ c. search needs)
-    other
-    (λ c. search needs)
-    (λ c. search needs)
-    (λ c. search needs)
-    (λ c κs. search needs)
-    end)
+    (tie.spec I μ (λ c κs. search needs) starts (λ c. search needs) (λ c. search needs) (λ c. search needs) (λ c. search needs) (λ c. search needs)
+    (λ c κs. search needs) refused (λ c. search needs) again (λ c. search needs) other (λ c. search needs) (λ c. search needs) (λ c. search needs)
+    (λ c κs. search needs) end)

@@ -7,9 +7,9 @@ use native.Mathlib.Omega.{arith}
 use lib.Dec.{leb}
 use lib.ListN.{getD}
 use Rattle.policy.specs.Model.{Coefficients}
-use Rattle.relations.specs.Decides.{Decides}
+use Rattle.base.specs.Truths.{Decides}
 use Rattle.relations.specs.Coefficients.{AtLeast, atLeast}
-use Rattle.relations.proofs.Laws.Decides.{decides-true, decides-false, decides-as, decides-leb, decides-and}
+use Rattle.base.proofs.Laws.Decides.{decides-true, decides-false, decides-as, decides-leb, decides-and}
 
 pub atLeast-decides : (c1 c2 : Coefficients) → Decides (atLeast c1 c2) (AtLeast c1 c2)
 unfolding atLeast

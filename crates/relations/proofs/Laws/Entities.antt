@@ -10,12 +10,12 @@ use native.Mathlib.Omega.{arith}
 use lib.Dec.{eqb}
 use borrow.Author.Tests.{eqb-false, eq-eqb, ne-eqb}
 use Rattle.policy.specs.Model.{noParent}
-use Rattle.relations.specs.Decides.{Decides}
-use Rattle.relations.specs.Lists.{among}
+use Rattle.base.specs.Truths.{Decides}
+use Rattle.base.specs.Lists.{among}
 use Rattle.relations.specs.Relations.{OneOfFive}
 use Rattle.relations.specs.Entities.{Tree, upward, ancestors, rootOf, AtOrAbove, atOrAbove, EntitiesStand, entityRelation}
-use Rattle.relations.proofs.Laws.Decides.{decides-eqb, decides-holds, decided}
-use Rattle.relations.proofs.Laws.Lists.{among-decides}
+use Rattle.base.proofs.Laws.Decides.{decides-eqb, decides-holds, decided}
+use Rattle.base.proofs.Laws.Members.{among-decides}
 use Rattle.relations.proofs.Laws.Relations.{Exclusive, found, only}
 
 -- ---- upward, a step at a time

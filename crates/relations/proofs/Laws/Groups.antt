@@ -4,25 +4,25 @@
 -- Assumes nothing.
 use mathlib.Core.Path.{_≡_, refl, sym, ap, _∙_}
 use mathlib.Core.Logic.{_↔_, _⊎_, inl, inr}
-use mathlib.Core.Bool.{Bool, true, false, _&&_, true≢false}
-use mathlib.Core.List.{List}
-use Prim.Native.Nat.{ℕ, zero, suc, _+_, _≤_, _<_}
+use mathlib.Core.Bool.{Bool, _&&_}
+use mathlib.Core.List.{List, [], _∷_}
+use Prim.Native.Nat.{ℕ, zero, suc, _+_, _<_}
 use native.Mathlib.Omega.{arith}
-use native.Mathlib.Decide.{decLt}
+use native.Mathlib.Nat.{add-zero}
 use lib.Dec.{eqb}
-use lib.ListN.{length, getD, drop, drop-of-length-le}
-use lib.Seq.{drop-cons}
+use lib.ListN.{length, getD}
 use Rattle.policy.specs.Model.{Packet, Row, Table, noRow, rowAt, parentOf}
 use Rattle.policy.specs.Wellformed.{IsEntity}
-use Rattle.relations.specs.Decides.{Decides}
-use Rattle.relations.specs.Lists.{same}
+use Rattle.base.specs.Truths.{Decides}
+use Rattle.base.specs.Lists.{same}
 use Rattle.relations.specs.Entities.{Tree, atOrAbove}
 use Rattle.relations.specs.Selectors.{Holds, holds}
 use Rattle.relations.specs.Groups.{SameGroup, sameGroup, Matches, matches, Wins, Dead, Hides, winnerFrom, winnerIn, winner}
 use Rattle.relations.specs.declared.group.Outcome.{Outcome}
 use Rattle.relations.specs.declared.group.Outcome.the-variants.{Won, Nobody}
-use Rattle.relations.proofs.Laws.Decides.{decides-as, decides-eqb, decides-and, decides-holds, decides-fails}
-use Rattle.relations.proofs.Laws.Lists.{same-decides}
+use Rattle.base.proofs.Laws.Decides.{decides-as, decides-eqb, decides-and, decides-holds, decides-fails}
+use Rattle.base.proofs.Laws.Members.{same-decides}
+use Rattle.base.proofs.Laws.Firsts.{NoneBelow, FirstBelow, first-or-none}
 use Rattle.relations.proofs.Laws.Entities.{above-self, above-trans, atOrAbove-decides}
 use Rattle.relations.proofs.Laws.Selectors.{holds-decides}
 
@@ -64,7 +64,12 @@ matches-decides up r a b p =
     (decides-and (atOrAbove up (r .destination) b) (holds (r .selector) p) (atOrAbove-decides up (r .destination) b)
     (holds-decides (r .selector) p)))
 
--- ---- the search for the winner, a row at a time
+-- ---- the search for the winner
+
+-- Two tests that were made of rows are those of the rows that they are.
+pub candidate-tested : (up : ℕ → ℕ) (a b : ℕ) (p : Packet) {r q g h : Row} {x y : Bool} → q ≡ r → h ≡ g → x ≡ sameGroup r g
+    → y ≡ matches up r a b p → (sameGroup q h && matches up q a b p) ≡ (x && y)
+candidate-tested up a b p e f k m = rw (e, f, k, m)
 
 module _ (up : ℕ → ℕ) (g : Row) (a b : ℕ) (p : Packet) where
   -- The row is of g's group and matches the probe.
@@ -74,145 +79,105 @@ module _ (up : ℕ → ℕ) (g : Row) (a b : ℕ) (p : Packet) where
   pub candidate-decides : (r : Row) → Decides (candidate r) (SameGroup r g × Matches up r a b p)
   candidate-decides r = decides-and (sameGroup r g) (matches up r a b p) (sameGroup-decides r g) (matches-decides up r a b p)
 
-  -- Two tests that were made of a row tell whether it is a candidate.
-  pub candidate-tested : (r q : Row) (x y : Bool) → q ≡ r → x ≡ sameGroup r g → y ≡ matches up r a b p → candidate q ≡ (x && y)
-  candidate-tested r q x y e k m = rw (e, k, m)
+  -- Whether the row at i is one.
+  abbrev pub candidateAt : List Row → ℕ → Bool
+  candidateAt rows i = candidate (getD rows i noRow)
 
-  module _ (rows : List Row) (i : ℕ) where
-    pub winner-here : i < length rows → candidate (getD rows i noRow) ≡ true → winnerFrom up g a b p i (drop i rows) ≡ Won i
-    unfolding winnerFrom
-    winner-here h e = rw (drop-cons rows i noRow h) (rw (e, winnerFrom))
+  first-from : (k : ℕ) (rows : List Row) (i : ℕ) → FirstBelow (candidateAt rows) (length rows) i → winnerFrom up g a b p k rows ≡ Won (k + i)
+  unfolding winnerFrom
+  first-from k [] i h = absurd (omega (arith, h .inside))
+  first-from k (r ∷ rows) zero h = rw (h .passes, winnerFrom, add-zero)
+  first-from k (r ∷ rows) (suc i) h =
+      rw (h .first 0 (omega arith), winnerFrom)
+      (first-from (suc k) rows i (record { inside = omega (arith, h .inside); passes = h .passes; first = λ j l. h .first (suc j) (omega arith) })
+      ∙ ap Won (omega arith))
 
-    pub winner-next : i < length rows → candidate (getD rows i noRow) ≡ false
-        → winnerFrom up g a b p i (drop i rows) ≡ winnerFrom up g a b p (suc i) (drop (suc i) rows)
-    unfolding winnerFrom
-    winner-next h e = rw (drop-cons rows i noRow h) (rw (e, winnerFrom))
+  none-from : (k : ℕ) (rows : List Row) → NoneBelow (candidateAt rows) (length rows) → winnerFrom up g a b p k rows ≡ Nobody
+  unfolding winnerFrom
+  none-from k [] h = refl
+  none-from k (r ∷ rows) h =
+      rw (h 0 (omega arith), winnerFrom) (none-from (suc k) rows (λ j l. h (suc j) (omega arith)))
 
-    pub winner-end : length rows ≤ i → winnerFrom up g a b p i (drop i rows) ≡ Nobody
-    unfolding winnerFrom
-    winner-end h = rw (drop-of-length-le rows {i = i} h)
+  module _ (rows : List Row) where
+    pub winner-first : (i : ℕ) → FirstBelow (candidateAt rows) (length rows) i → winnerFrom up g a b p 0 rows ≡ Won i
+    winner-first i h = first-from 0 rows i h ∙ ap Won (omega arith)
 
--- ---- who wins
+    pub winner-absent : NoneBelow (candidateAt rows) (length rows) → winnerFrom up g a b p 0 rows ≡ Nobody
+    winner-absent h = none-from 0 rows h
 
--- What the answer of the search says: all before the row that won are no candidates, and where nobody won no row is.
-abbrev Right : (Row → Bool) → List Row → Outcome → Type 0
-Right f rows (Won i) = (i < length rows) × (f (getD rows i noRow) ≡ true) × ((j : ℕ) → j < i → f (getD rows j noRow) ≡ false)
-Right f rows Nobody = (j : ℕ) → j < length rows → f (getD rows j noRow) ≡ false
-
--- One row more that is none.
-passed : (f : Row → Bool) (rows : List Row) (i : ℕ) → ((j : ℕ) → j < i → f (getD rows j noRow) ≡ false) → f (getD rows i noRow) ≡ false
-    → (j : ℕ) → j < suc i → f (getD rows j noRow) ≡ false
-passed f rows i h e j k =
-    elim (decLt j i) [ yes l ↦ h j l | no l ↦ let q : j ≡ i = omega arith in rw q e ]
-
-module _ (up : ℕ → ℕ) (g : Row) (a b : ℕ) (p : Packet) (rows : List Row) where
-  right-from : (n i : ℕ) → i + n ≡ length rows → ((j : ℕ) → j < i → candidate up g a b p (getD rows j noRow) ≡ false)
-      → Right (candidate up g a b p) rows (winnerFrom up g a b p i (drop i rows))
-  right-from zero i e h = rw (winner-end up g a b p rows i (omega arith)) (λ j k. h j (omega arith))
-  right-from (suc n) i e h = turn (candidate up g a b p (getD rows i noRow)) refl (λ q. right-from n (suc i) (omega arith) (passed (candidate up g a b p) rows i h q))
-    where
-      turn : (c : Bool) → candidate up g a b p (getD rows i noRow) ≡ c
-          → (candidate up g a b p (getD rows i noRow) ≡ false → Right (candidate up g a b p) rows (winnerFrom up g a b p (suc i) (drop (suc i) rows)))
-          → Right (candidate up g a b p) rows (winnerFrom up g a b p i (drop i rows))
-      turn true q r = rw (winner-here up g a b p rows i (omega arith) q) (omega arith, q, h)
-      turn false q r = rw (winner-next up g a b p rows i (omega arith) q) (r q)
-
-  right : Right (candidate up g a b p) rows (winnerFrom up g a b p 0 rows)
-  right = right-from (length rows) 0 (omega arith) (λ j k. absurd (omega arith))
-
-module _ (t : Table) (g a b : ℕ) (p : Packet) where
-  abbrev claims : Row → Bool
-  claims r = candidate (parentOf t) (rowAt t g) a b p r
-
-  -- The answer is the one that is right.
-  answered : (o w : Outcome) → Right claims (t .rows) o → Right claims (t .rows) w → o ≡ w
-  answered (Won i) (Won j) x y =
-      elim (decLt i j) [
-        | yes l ↦ absurd (true≢false (sym (x .1) ∙ y .2 i l))
-        | no l ↦ elim (decLt j i) [
-          | yes k ↦ absurd (true≢false (sym (y .1) ∙ x .2 j k))
-          | no k ↦ ap Won (omega arith)
+    -- What the answer says.
+    pub first-won : (i : ℕ) → winnerFrom up g a b p 0 rows ≡ Won i → FirstBelow (candidateAt rows) (length rows) i
+    first-won i e =
+        elim (first-or-none (candidateAt rows) (length rows)) [
+          | inl h ↦ let w = winner-first (h .0) (h .1) in let q : h .0 ≡ i = cc in rw (← q) (h .1)
+          | inr h ↦ let w = winner-absent h in let z : _≡_ {A = ℕ} 0 1 = cc in absurd (omega arith)
         ]
-      ]
-  answered (Won i) Nobody x y = absurd (true≢false (sym (x .1) ∙ y i (x .0)))
-  answered Nobody (Won j) x y = absurd (true≢false (sym (y .1) ∙ x j (y .0)))
-  answered Nobody Nobody x y = refl
 
-  decided-claim : (i : ℕ) → Decides (claims (rowAt t i)) (SameGroup (rowAt t i) (rowAt t g) × Matches (parentOf t) (rowAt t i) a b p)
-  decided-claim i = candidate-decides (parentOf t) (rowAt t g) a b p (rowAt t i)
+    pub none-won : winnerFrom up g a b p 0 rows ≡ Nobody → NoneBelow (candidateAt rows) (length rows)
+    none-won e =
+        elim (first-or-none (candidateAt rows) (length rows)) [
+          | inl h ↦ let w = winner-first (h .0) (h .1) in let z : _≡_ {A = ℕ} 0 1 = cc in absurd (omega arith)
+          | inr h ↦ h
+        ]
 
+-- ---- who wins, in a group that is named by any row, of this table or not
+
+module _ (t : Table) (g : Row) (a b : ℕ) (p : Packet) where
+  claims : (i : ℕ) → Decides (candidateAt (parentOf t) g a b p (t .rows) i) (SameGroup (rowAt t i) g × Matches (parentOf t) (rowAt t i) a b p)
+  claims i = candidate-decides (parentOf t) g a b p (rowAt t i)
+
+  pub group-wins : (i : ℕ) → winnerFrom (parentOf t) g a b p 0 (t .rows) ≡ Won i → SameGroup (rowAt t i) g × Wins t i a b p
+  group-wins i e =
+      let r = first-won (parentOf t) g a b p (t .rows) i e in
+      let c = claims i .yes (r .passes) in (
+        c .0,
+        record {
+          row = r .inside;
+          matches = c .1;
+          first = λ j l s m. claims j .no (r .first j l) (group-trans s (c .0), m);
+        },
+      )
+
+  wins-group : (i : ℕ) → SameGroup (rowAt t i) g × Wins t i a b p → winnerFrom (parentOf t) g a b p 0 (t .rows) ≡ Won i
+  wins-group i h =
+      let w = h .1 in
+      winner-first (parentOf t) g a b p (t .rows) i (record {
+        inside = w .row;
+        passes = decides-holds (candidateAt (parentOf t) g a b p (t .rows) i) (claims i) (h .0, w .matches);
+        first = λ j l.
+            decides-fails (candidateAt (parentOf t) g a b p (t .rows) j) (claims j)
+            (λ c. w .first j l (group-trans (c .0) (group-sym (h .0))) (c .1));
+      })
+
+  -- No row of the group matches.
+  abbrev Unmatched : Type 0
+  Unmatched = (i : ℕ) → i < length (t .rows) → SameGroup (rowAt t i) g → Matches (parentOf t) (rowAt t i) a b p → ⊥
+
+  pub group-nobody : winnerFrom (parentOf t) g a b p 0 (t .rows) ≡ Nobody → Unmatched
+  group-nobody e i l s m = claims i .no (none-won (parentOf t) g a b p (t .rows) e i l) (s, m)
+
+  nobody-group : Unmatched → winnerFrom (parentOf t) g a b p 0 (t .rows) ≡ Nobody
+  nobody-group h =
+      winner-absent (parentOf t) g a b p (t .rows)
+      (λ j l. decides-fails (candidateAt (parentOf t) g a b p (t .rows) j) (claims j) (λ c. h j l (c .0) (c .1)))
+
+-- In the group that row g names.
+module _ (t : Table) (g a b : ℕ) (p : Packet) where
   -- Row g names the group by the row that it is.
   pub winner-group : winner t g a b p ≡ winnerFrom (parentOf t) (rowAt t g) a b p 0 (t .rows)
   unfolding winnerIn
   winner-group = refl
 
-  -- Row i is the winner that the group of row g has exactly when it is of the group and wins.
+  -- Row i is the winner exactly when it is of the group and wins.
   pub winner-wins : (i : ℕ) → (winner t g a b p ≡ Won i) ↔ (SameGroup (rowAt t i) (rowAt t g) × Wins t i a b p)
   unfolding winnerIn
-  winner-wins i = (to, from)
-    where
-      to : winner t g a b p ≡ Won i → SameGroup (rowAt t i) (rowAt t g) × Wins t i a b p
-      to e =
-          let r : Right claims (t .rows) (Won i) = rw e at (right (parentOf t) (rowAt t g) a b p (t .rows)) in
-          let c = decided-claim i .yes (r .1) in (
-            c .0,
-            record {
-              row = r .0;
-              matches = c .1;
-              first = λ j l s m. decided-claim j .no (r .2 j l) (group-trans s (c .0), m);
-            },
-          )
-
-      from : SameGroup (rowAt t i) (rowAt t g) × Wins t i a b p → winner t g a b p ≡ Won i
-      from h =
-          let w = h .1 in
-          answered (winner t g a b p) (Won i) (right (parentOf t) (rowAt t g) a b p (t .rows)) (
-            w .row,
-            decides-holds (claims (rowAt t i)) (decided-claim i) (h .0, w .matches),
-            λ j l. decides-fails (claims (rowAt t j)) (decided-claim j) (λ c. w .first j l (group-trans (c .0) (group-sym (h .0))) (c .1)),
-          )
+  winner-wins i = (group-wins t (rowAt t g) a b p i, wins-group t (rowAt t g) a b p i)
 
   -- Nobody wins exactly when no row of the group matches.
   pub winner-nobody : (winner t g a b p ≡ Nobody)
       ↔ ((i : ℕ) → i < length (t .rows) → SameGroup (rowAt t i) (rowAt t g) → Matches (parentOf t) (rowAt t i) a b p → ⊥)
   unfolding winnerIn
-  winner-nobody = (to, from)
-    where
-      to : winner t g a b p ≡ Nobody → (i : ℕ) → i < length (t .rows) → SameGroup (rowAt t i) (rowAt t g) → Matches (parentOf t) (rowAt t i) a b p → ⊥
-      to e i l s m =
-          let r : Right claims (t .rows) Nobody = rw e at (right (parentOf t) (rowAt t g) a b p (t .rows)) in
-          decided-claim i .no (r i l) (s, m)
-
-      from : ((i : ℕ) → i < length (t .rows) → SameGroup (rowAt t i) (rowAt t g) → Matches (parentOf t) (rowAt t i) a b p → ⊥) → winner t g a b p ≡ Nobody
-      from h =
-          answered (winner t g a b p) Nobody (right (parentOf t) (rowAt t g) a b p (t .rows))
-          (λ j l. decides-fails (claims (rowAt t j)) (decided-claim j) (λ c. h j l (c .0) (c .1)))
-
--- A group that is named by any row, of this table or not: who wins in it, and where nobody does no row of it matches.
-module _ (t : Table) (g : Row) (a b : ℕ) (p : Packet) where
-  right-group : Right (candidate (parentOf t) g a b p) (t .rows) (winnerFrom (parentOf t) g a b p 0 (t .rows))
-  right-group = right (parentOf t) g a b p (t .rows)
-
-  decided-group : (i : ℕ) → Decides (candidate (parentOf t) g a b p (rowAt t i)) (SameGroup (rowAt t i) g × Matches (parentOf t) (rowAt t i) a b p)
-  decided-group i = candidate-decides (parentOf t) g a b p (rowAt t i)
-
-  pub group-wins : (i : ℕ) → winnerFrom (parentOf t) g a b p 0 (t .rows) ≡ Won i → SameGroup (rowAt t i) g × Wins t i a b p
-  group-wins i e =
-      let r : Right (candidate (parentOf t) g a b p) (t .rows) (Won i) = rw e at right-group in
-      let c = decided-group i .yes (r .1) in (
-        c .0,
-        record {
-          row = r .0;
-          matches = c .1;
-          first = λ j l s m. decided-group j .no (r .2 j l) (group-trans s (c .0), m);
-        },
-      )
-
-  pub group-nobody : winnerFrom (parentOf t) g a b p 0 (t .rows) ≡ Nobody
-      → (i : ℕ) → i < length (t .rows) → SameGroup (rowAt t i) g → Matches (parentOf t) (rowAt t i) a b p → ⊥
-  group-nobody e i l s m =
-      let r : Right (candidate (parentOf t) g a b p) (t .rows) Nobody = rw e at right-group in
-      decided-group i .no (r i l) (s, m)
+  winner-nobody = (group-nobody t (rowAt t g) a b p, nobody-group t (rowAt t g) a b p)
 
 -- Whichever row of the group names it, the winner is the same.
 pub winner-named : (t : Table) (g h a b : ℕ) (p : Packet) → SameGroup (rowAt t g) (rowAt t h) → winner t g a b p ≡ winner t h a b p
@@ -257,25 +222,12 @@ module _ (t : Table) (tree : Tree (parentOf t)) (i : ℕ) where
       (λ h. (h .group, record { source = h .source; destination = h .destination; packet = h .packet }))
       (candidate-decides (parentOf t) (rowAt t i) (rowAt t i .source) (rowAt t i .destination) p (rowAt t j))
 
-  -- Some number below n passes the test, or none does.
-  some-below : (f : ℕ → Bool) (n : ℕ) → ((j : ℕ) × (j < n) × (f j ≡ true)) ⊎ ((j : ℕ) → j < n → f j ≡ false)
-  some-below f zero = inr (λ j l. absurd (omega arith))
-  some-below f (suc n) =
-      elim (some-below f n) [
-        | inl h ↦ inl (h .0, omega (arith, h .1), h .2)
-        | inr h ↦ last (f n) refl h
-      ]
-    where
-      last : (c : Bool) → f n ≡ c → ((j : ℕ) → j < n → f j ≡ false) → ((j : ℕ) × (j < suc n) × (f j ≡ true)) ⊎ ((j : ℕ) → j < suc n → f j ≡ false)
-      last true e h = inl (n, omega arith, e)
-      last false e h = inr (λ j l. elim (decLt j n) [ yes k ↦ h j k | no k ↦ let q : j ≡ n = omega arith in rw q e ])
-
   -- A packet of the row is hidden, or the row wins its own probe with it.
   pub hidden-or-wins : i < length (t .rows) → (p : Packet) → Holds (rowAt t i .selector) p
       → ((j : ℕ) × Hides t j i p) ⊎ Wins t i (rowAt t i .source) (rowAt t i .destination) p
   hidden-or-wins r p h =
-      elim (some-below (λ j. candidate (parentOf t) (rowAt t i) (rowAt t i .source) (rowAt t i .destination) p (rowAt t j)) i) [
-        | inl s ↦ inl (s .0, hides-own (s .0) p (s .1) .yes (s .2))
+      elim (first-or-none (candidateAt (parentOf t) (rowAt t i) (rowAt t i .source) (rowAt t i .destination) p (t .rows)) i) [
+        | inl s ↦ inl (s .0, hides-own (s .0) p (s .1 .inside) .yes (s .1 .passes))
         | inr n ↦ inr (record {
           row = r;
           matches = record {

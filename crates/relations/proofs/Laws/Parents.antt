@@ -5,12 +5,13 @@ use mathlib.Core.List.{List}
 use Prim.Native.Nat.{ℕ, _<_}
 use native.Mathlib.Omega.{arith}
 use lib.ListN.{getD}
+use Rattle.policy.specs.Limits.{mostEntities}
 use Rattle.policy.specs.Model.{noParent}
 use Rattle.policy.specs.Views.{parentIn}
-use Rattle.policy.proofs.Laws.Lists.{getD-default}
+use Rattle.base.proofs.Laws.Lists.{getD-default}
 use Rattle.relations.specs.Entities.{Parents}
 
-module _ (parents : List ℕ) (e : ℕ) (lent : Parents parents) (small : e < 128) where
+module _ (parents : List ℕ) (e : ℕ) (lent : Parents parents) (small : e < mostEntities) where
   pub parent-read : getD parents e 0 ≡ parentIn parents e
   parent-read = let f = lent .full in getD-default parents e 0 noParent (omega arith)
 

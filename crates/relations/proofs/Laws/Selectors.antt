@@ -1,10 +1,11 @@
 -- Laws of selectors, for any number of fields. Each test is true exactly when the meaning holds: a packet in a selector, ⪰,
--- overlap, some packet in a selector, several selectors that meet, the same selector. ⪰ both ways. And source and destination exchanged.
+-- overlap, some packet in a selector, several selectors that meet, the same selector. ⪰ both ways. Source and
+-- destination exchanged. Each relation by the packets of the lows and of the highs.
 -- Assumes nothing.
 use mathlib.Core.Path.{_≡_, refl, sym, ap, _∙_}
 use mathlib.Core.Logic.{_↔_, inl, inr}
-use mathlib.Core.Bool.{true, and-eq-true-iff}
-use mathlib.Core.List.{List, [], _∷_, List·Memᴰ, List·Memᴰ·head, List·Memᴰ·tail, List·Memᴰ·not-nil, List·Memᴰ·cases-cons}
+use mathlib.Core.Bool.{Bool, true, _&&_, and-eq-true-iff}
+use mathlib.Core.List.{List, [], _∷_, map-id, List·Memᴰ, List·Memᴰ·head, List·Memᴰ·tail, List·Memᴰ·not-nil, List·Memᴰ·cases-cons}
 use Prim.Native.Nat.{ℕ, suc, _≤_, max}
 use native.Mathlib.Omega.{arith}
 use borrow.Author.Tests.{leb-true}
@@ -12,10 +13,13 @@ use lib.Dec.{leb, eqb}
 use lib.ListN.{length}
 use Rattle.policy.specs.Model.{Range, Selector, Packet}
 use Rattle.policy.specs.Wellformed.{Ordered}
-use Rattle.relations.specs.Decides.{Decides}
+use Rattle.base.specs.Truths.{Decides}
 use Rattle.relations.specs.Ranges.{Within, within, containsRange, overlapsRange, inhabitedRange, sameRange}
-use Rattle.relations.specs.Selectors.{Holds, holds, Contains, contains, Overlap, overlaps, Inhabited, inhabited, meet, meetAll, MeetAll, exchange, sameSelector}
-use Rattle.relations.proofs.Laws.Decides.{decides-true, decides-false, decides-as, decides-leb, decides-eqb, decides-and}
+use Rattle.base.specs.Pairs.{Pairwise}
+use Rattle.relations.specs.Selectors.{lows, highs, noneAbove, Holds, holds, Contains, contains, Overlap, overlaps, Inhabited, inhabited, meet, meetAll, MeetAll, exchange, sameSelector}
+use Rattle.base.proofs.Laws.Decides.{decides-true, decides-false, decides-as, decides-leb, decides-eqb, decides-and}
+use Rattle.base.proofs.Laws.Firsts.{decides-once}
+use Rattle.base.proofs.Laws.Pairs.{pairwise-decides, pairwise-both, pairwise-map}
 
 -- ---- a packet in a selector
 
@@ -52,10 +56,7 @@ not-shorter r s h = h
 
 pub holds-decides : (s : Selector) (p : Packet) → Decides (holds s p) (Holds s p)
 unfolding holds Holds
-holds-decides [] [] = decides-true tt
-holds-decides [] (x ∷ p) = decides-false (λ h. h)
-holds-decides (r ∷ s) [] = decides-false (λ h. h)
-holds-decides (r ∷ s) (x ∷ p) = decides-and (within r x) (holds s p) (within-decides r x) (holds-decides s p)
+holds-decides = pairwise-decides within Within within-decides
 
 -- A packet has as many fields as the selector that it is in.
 pub holds-length : (s : Selector) (p : Packet) → Holds s p → length p ≡ length s
@@ -65,12 +66,7 @@ holds-length [] (x ∷ p) h = absurd h
 holds-length (r ∷ s) [] h = absurd h
 holds-length (r ∷ s) (x ∷ p) h = ap suc (holds-length s p (h .1))
 
--- The packet of the lows.
-abbrev lows : Selector → Packet
-lows [] = []
-lows (r ∷ s) = r .low ∷ lows s
-
--- It is the least that is in the selector, where no low is above its high.
+-- The packet of the lows is in the selector, where no low is above its high.
 lows-in : (s : Selector) → Ordered s → Holds s (lows s)
 unfolding Holds
 lows-in [] o = tt
@@ -88,6 +84,10 @@ contains-fields r q s1 s2 o c =
     let k = c (q .high ∷ lows s2) (record { low = o .0; high = omega arith }, b) in
     ((l .0 .low, k .0 .high), λ p m. c (q .low ∷ p) (record { low = omega arith; high = o .0 }, m) .1)
 
+containsRange-decides : (r q : Range) → Decides (containsRange r q) ((r .low ≤ q .low) × (q .high ≤ r .high))
+containsRange-decides r q =
+    decides-and (leb (r .low) (q .low)) (leb (q .high) (r .high)) (decides-leb (r .low) (q .low)) (decides-leb (q .high) (r .high))
+
 pub contains-decides : (s1 s2 : Selector) → Ordered s2 → Decides (contains s1 s2) (Contains s1 s2)
 unfolding contains Holds
 contains-decides [] [] o = decides-true (λ p h. h)
@@ -95,9 +95,7 @@ contains-decides [] (q ∷ s2) o = decides-false {P = Contains [] (q ∷ s2)} (�
 contains-decides (r ∷ s1) [] o = decides-false {P = Contains (r ∷ s1) []} (λ c. c [] tt)
 contains-decides (r ∷ s1) (q ∷ s2) o =
     decides-as more (contains-fields r q s1 s2 o)
-    (decides-and (containsRange r q) (contains s1 s2)
-    (decides-and (leb (r .low) (q .low)) (leb (q .high) (r .high)) (decides-leb (r .low) (q .low)) (decides-leb (q .high) (r .high)))
-    (contains-decides s1 s2 (o .1)))
+    (decides-and (containsRange r q) (contains s1 s2) (containsRange-decides r q) (contains-decides s1 s2 (o .1)))
   where
     more : ((r .low ≤ q .low) × (q .high ≤ r .high)) × Contains s1 s2 → Contains (r ∷ s1) (q ∷ s2)
     more h [] m = m
@@ -256,19 +254,67 @@ exchange-holds (r ∷ []) (x ∷ y ∷ p) h = absurd (h .1)
 exchange-holds (r ∷ q ∷ s) (x ∷ []) h = absurd (h .1)
 exchange-holds (r ∷ q ∷ s) (x ∷ y ∷ p) h = (h .1 .0, (h .0, exchange-holds s p (h .1 .1)))
 
+abbrev SameRanges : Range → Range → Type 0
+SameRanges r q = (r .low ≡ q .low) × (r .high ≡ q .high)
+
+sameRange-decides : (r q : Range) → Decides (sameRange r q) (SameRanges r q)
+sameRange-decides r q =
+    decides-and (eqb (r .low) (q .low)) (eqb (r .high) (q .high)) (decides-eqb (r .low) (q .low)) (decides-eqb (r .high) (q .high))
+
 pub sameSelector-decides : (s1 s2 : Selector) → Decides (sameSelector s1 s2) (s1 ≡ s2)
 unfolding sameSelector
-sameSelector-decides [] [] = decides-true refl
-sameSelector-decides [] (q ∷ s2) = decides-false (λ e. let z : _≡_ {A = ℕ} 0 1 = cc in omega arith)
-sameSelector-decides (r ∷ s1) [] = decides-false (λ e. let z : _≡_ {A = ℕ} 0 1 = cc in omega arith)
-sameSelector-decides (r ∷ s1) (q ∷ s2) =
-    decides-as more less
-    (decides-and (sameRange r q) (sameSelector s1 s2)
-    (decides-and (eqb (r .low) (q .low)) (eqb (r .high) (q .high)) (decides-eqb (r .low) (q .low)) (decides-eqb (r .high) (q .high)))
-    (sameSelector-decides s1 s2))
+sameSelector-decides s1 s2 =
+    decides-as (all s1 s2) (λ e. rw (← e) (itself s1)) (pairwise-decides sameRange SameRanges sameRange-decides s1 s2)
   where
-    more : ((r .low ≡ q .low) × (r .high ≡ q .high)) × (s1 ≡ s2) → r ∷ s1 ≡ q ∷ s2
-    more h = λ i. record { low = h .0 .0 i; high = h .0 .1 i } ∷ h .1 i
+    all : (s1 s2 : Selector) → Pairwise SameRanges s1 s2 → s1 ≡ s2
+    all [] [] h = refl
+    all [] (q ∷ s2) h = absurd h
+    all (r ∷ s1) [] h = absurd h
+    all (r ∷ s1) (q ∷ s2) h = let e = all s1 s2 (h .1) in λ i. record { low = h .0 .0 i; high = h .0 .1 i } ∷ e i
 
-    less : r ∷ s1 ≡ q ∷ s2 → ((r .low ≡ q .low) × (r .high ≡ q .high)) × (s1 ≡ s2)
-    less e = let k : r ≡ q = cc in ((ap (λ x. x .low) k, ap (λ x. x .high) k), cc)
+    itself : (s : Selector) → Pairwise SameRanges s s
+    itself [] = tt
+    itself (r ∷ s) = ((refl, refl), itself s)
+
+-- ---- the relations by the packets of the lows and of the highs
+
+-- What was found of two packets is found of those that they are.
+pub noneAbove-of : {b : Bool} {p q x y : Packet} → b ≡ noneAbove p q → p ≡ x → q ≡ y → b ≡ noneAbove x y
+noneAbove-of e u v = rw (← u, ← v) e
+
+pub holds-ends : (s : Selector) (p : Packet) → holds s p ≡ (noneAbove (lows s) p && noneAbove p (highs s))
+unfolding holds
+holds-ends s p =
+    pairwise-both within (λ r x. leb (r .low) x) (λ x r. leb x (r .high)) (λ r x. refl) s p
+    ∙ rw (pairwise-map leb (λ r. r .low) (λ x. x) s p, pairwise-map leb (λ x. x) (λ r. r .high) p s, map-id)
+
+pub inhabited-ends : (s : Selector) → inhabited s ≡ noneAbove (lows s) (highs s)
+unfolding inhabited
+inhabited-ends [] = refl
+inhabited-ends (r ∷ s) = rw (inhabited-ends s)
+
+module _ (s1 s2 : Selector) where
+  pub contains-ends : contains s1 s2 ≡ (noneAbove (lows s1) (lows s2) && noneAbove (highs s2) (highs s1))
+  unfolding contains
+  contains-ends =
+      pairwise-both containsRange (λ r q. leb (r .low) (q .low)) (λ q r. leb (q .high) (r .high)) (λ r q. refl) s1 s2
+      ∙ rw (pairwise-map leb (λ r. r .low) (λ q. q .low) s1 s2, pairwise-map leb (λ q. q .high) (λ r. r .high) s2 s1)
+
+  pub overlaps-ends : overlaps s1 s2 ≡ (noneAbove (lows s1) (highs s2) && noneAbove (lows s2) (highs s1))
+  unfolding overlaps
+  overlaps-ends =
+      pairwise-both overlapsRange (λ r q. leb (r .low) (q .high)) (λ q r. leb (q .low) (r .high)) (λ r q. refl) s1 s2
+      ∙ rw (pairwise-map leb (λ r. r .low) (λ q. q .high) s1 s2, pairwise-map leb (λ q. q .low) (λ r. r .high) s2 s1)
+
+  -- The same selector, where each contains the other.
+  pub same-contains : sameSelector s1 s2 ≡ (contains s1 s2 && contains s2 s1)
+  unfolding sameSelector contains
+  same-contains = pairwise-both sameRange containsRange containsRange both-ways s1 s2
+    where
+      both-ways : (r q : Range) → sameRange r q ≡ (containsRange r q && containsRange q r)
+      both-ways r q =
+          decides-once (sameRange r q) (containsRange r q && containsRange q r) (sameRange-decides r q)
+          (decides-as
+          (λ h. let x = h .0 in let y = h .1 in (omega (arith, x .0, y .0), omega (arith, x .1, y .1)))
+          (λ h. ((omega (arith, h .0), omega (arith, h .1)), (omega (arith, h .0), omega (arith, h .1))))
+          (decides-and (containsRange r q) (containsRange q r) (containsRange-decides r q) (containsRange-decides q r)))

@@ -8,10 +8,10 @@ use Prim.Native.Nat.{ℕ, zero, suc, _≤_, _<_}
 use native.Mathlib.Omega.{arith}
 use lib.Dec.{eqb, ltb}
 use lib.ListN.{List·getD-eq-default}
-use Rattle.relations.specs.Decides.{Decides}
+use Rattle.base.specs.Truths.{Decides}
 use Rattle.relations.specs.Relations.{OneOfFive}
 use Rattle.relations.specs.Technologies.{layerOf, Dominates, dominates, KinTechnologies, DisjointTechnologies, TechnologiesStand, technologyRelation}
-use Rattle.relations.proofs.Laws.Decides.{decides-as, decides-eqb, decides-ltb, decides-not, decides-and, decided}
+use Rattle.base.proofs.Laws.Decides.{decides-as, decides-eqb, decides-ltb, decides-not, decides-and, decided}
 use Rattle.relations.proofs.Laws.Relations.{Exclusive, found, only}
 
 -- ---- layers by ranges

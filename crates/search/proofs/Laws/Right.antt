@@ -2,7 +2,7 @@
 -- In order: boxes of one size, the least high and the next candidate, what the boxes claim, the candidates of one field, the search.
 -- Assumes nothing.
 use Prim.Native.Nat.{ℕ, zero, suc, _+_, _-_, _≤_, _<_, min}
-use mathlib.Core.Path.{_≡_, refl, ap}
+use mathlib.Core.Path.{_≡_, refl}
 use mathlib.Core.Bool.{Bool, true, false, _&&_}
 use mathlib.Core.Logic.{inl, inr}
 use mathlib.Core.List.{List, [], _∷_, List·Memᴰ, List·Memᴰ·head, List·Memᴰ·tail, List·Memᴰ·not-nil, List·Memᴰ·cases-cons}
@@ -11,35 +11,39 @@ use native.Mathlib.Decide.{decLt}
 use lib.Dec.{leb, ltb}
 use lib.ListN.{length, drop}
 use borrow.Author.Tests.{ltb-true, ltb-false}
-use Rattle.hex.specs.Digits.{pick}
+use Rattle.base.specs.Truths.{pick, Decides}
 use Rattle.policy.specs.Model.{Range, Selector, Packet}
 use Rattle.policy.specs.Wellformed.{Ordered}
-use Rattle.relations.specs.Decides.{Decides}
 use Rattle.relations.specs.Ranges.{Within, within}
 use Rattle.relations.specs.Selectors.{Holds}
-use Rattle.relations.proofs.Laws.Decides.{decides-leb, decides-ltb, decides-and, decides-holds}
+use Rattle.base.proofs.Laws.Decides.{decides-leb, decides-ltb, decides-and, decides-holds}
 use Rattle.relations.proofs.Laws.Selectors.{within-decides, holds-both, holds-first, holds-rest, holds-nothing, not-longer, not-shorter}
-use Rattle.search.specs.Search.{first, narrow, lesser, least, value, last, next, Answer, found, none, or-later, onward, tries, from, search}
+use Rattle.search.specs.Search.{first, narrow, lesser, least, value, last, next, SearchResult, found, none, or-later, onward, tries, from, search}
+use Rattle.base.proofs.Laws.Passing.{passing-of, passing-in}
 use Rattle.search.specs.Least.{_≤ₚ_, done, less, same, Claimed, Least, Right}
 
 -- ---- boxes of one size
 
 -- Each box has n fields.
-abbrev pub Sized : ℕ → List Selector → Type 0
-Sized n [] = Unit {0}
-Sized n (b ∷ bs) = (length b ≡ n) × Sized n bs
+abbrev pub EachSized : ℕ → List Selector → Type 0
+EachSized n [] = Unit {0}
+EachSized n (b ∷ bs) = (length b ≡ n) × EachSized n bs
 
 -- Boxes that each have n fields, told one by one.
-pub sized-listed : (n : ℕ) (bs : List Selector) → ((b : Selector) → List·Memᴰ b bs → length b ≡ n) → Sized n bs
+pub sized-listed : (n : ℕ) (bs : List Selector) → ((b : Selector) → List·Memᴰ b bs → length b ≡ n) → EachSized n bs
 sized-listed n [] h = tt
 sized-listed n (b ∷ bs) h = (h b (List·Memᴰ·head refl), sized-listed n bs (λ c m. h c (List·Memᴰ·tail m)))
 
-sized-narrow : (n v : ℕ) (bs : List Selector) → Sized (suc n) bs → Sized n (narrow v bs)
+sized-member : (n : ℕ) (bs : List Selector) → EachSized n bs → (b : Selector) → List·Memᴰ b bs → length b ≡ n
+sized-member n [] s b m = absurd (List·Memᴰ·not-nil m)
+sized-member n (c ∷ bs) s b m = elim (List·Memᴰ·cases-cons m) [ inl e ↦ rw e (s .0) | inr k ↦ sized-member n bs (s .1) b k ]
+
+sized-narrow : (n v : ℕ) (bs : List Selector) → EachSized (suc n) bs → EachSized n (narrow v bs)
 sized-narrow n v [] s = tt
 sized-narrow n v ([] ∷ bs) s = absurd (omega arith)
 sized-narrow n v ((r ∷ b) ∷ bs) s =
     let rest = sized-narrow n v bs (s .1) in
-    elim (within r v) as (λ t. Sized n (pick t (b ∷ narrow v bs) (narrow v bs))) [ true ↦ (omega arith, rest) | false ↦ rest ]
+    elim (within r v) as (λ t. EachSized n (pick t (b ∷ narrow v bs) (narrow v bs))) [ true ↦ (omega arith, rest) | false ↦ rest ]
 
 -- ---- the least high, and the next candidate
 
@@ -84,31 +88,19 @@ next-rises v high bs w e = go (ltb (least v high bs) high) refl e
 
 -- A box that holds v in its first field is narrowed to its further fields.
 narrow-in : (v : ℕ) (bs : List Selector) (r : Range) (b : Selector) → Within r v → List·Memᴰ (r ∷ b) bs → List·Memᴰ b (narrow v bs)
-narrow-in v [] r b w i = absurd (List·Memᴰ·not-nil i)
-narrow-in v (c ∷ bs) r b w i = elim (List·Memᴰ·cases-cons i) [
-  | inl e ↦ rw (← e, decides-holds (within r v) (within-decides r v) w) (List·Memᴰ·head refl)
-  | inr k ↦
-      let rest = narrow-in v bs r b w k in
-      elim (within (first c) v) as (λ t. List·Memᴰ b (pick t (drop 1 c ∷ narrow v bs) (narrow v bs))) [
-        | true ↦ List·Memᴰ·tail rest
-        | false ↦ rest
-      ]
-]
+narrow-in v bs r b w i =
+    passing-in (λ c. within (first c) v) (drop 1) bs (r ∷ b) i (decides-holds (within r v) (within-decides r v) w)
 
 -- And each narrowed box is what is left of such a box.
-narrow-of : (n v : ℕ) (bs : List Selector) (b : Selector) → Sized (suc n) bs → List·Memᴰ b (narrow v bs)
+narrow-of : (n v : ℕ) (bs : List Selector) (b : Selector) → EachSized (suc n) bs → List·Memᴰ b (narrow v bs)
     → (r : Range) × Within r v × List·Memᴰ (r ∷ b) bs
-narrow-of n v [] b s i = absurd (List·Memᴰ·not-nil i)
-narrow-of n v ([] ∷ bs) b s i = absurd (omega arith)
-narrow-of n v ((r ∷ c) ∷ bs) b s i = go (within r v) (within-decides r v) (narrow-of n v bs b (s .1)) i
+narrow-of n v bs b s i =
+    let h = passing-of (λ c. within (first c) v) (drop 1) bs b i in
+    go (h .0) (sized-member (suc n) bs s (h .0) (h .1)) (h .1) (h .2) (h .3)
   where
-    go : (t : Bool) → Decides t (Within r v) → (List·Memᴰ b (narrow v bs) → (q : Range) × Within q v × List·Memᴰ (q ∷ b) bs)
-        → List·Memᴰ b (pick t (c ∷ narrow v bs) (narrow v bs)) → (q : Range) × Within q v × List·Memᴰ (q ∷ b) ((r ∷ c) ∷ bs)
-    go true d rest k = elim (List·Memᴰ·cases-cons k) [
-      | inl e ↦ (r, d .yes refl, List·Memᴰ·head (ap (λ l. r ∷ l) e))
-      | inr j ↦ let m = rest j in (m .0, m .1, List·Memᴰ·tail (m .2))
-    ]
-    go false d rest k = let m = rest k in (m .0, m .1, List·Memᴰ·tail (m .2))
+    go : (c : Selector) → length c ≡ suc n → List·Memᴰ c bs → within (first c) v ≡ true → b ≡ drop 1 c → (r : Range) × Within r v × List·Memᴰ (r ∷ b) bs
+    go [] l m e q = absurd (omega arith)
+    go (r ∷ c) l m e q = (r, within-decides r v .yes e, rw q m)
 
 -- What the boxes claim with v in the first field the narrowed ones claim.
 narrow-claims : (v : ℕ) (bs : List Selector) (q : Packet) → Claimed bs (v ∷ q) → Claimed (narrow v bs) q
@@ -120,7 +112,7 @@ narrow-claims v bs q c = go (c .box) (c .listed) (c .holds)
 
 -- ---- the candidates of one field
 
-module _ (r : Range) (rs : Selector) (bs : List Selector) (sized : Sized (suc (length rs)) bs) where
+module _ (r : Range) (rs : Selector) (bs : List Selector) (sized : EachSized (suc (length rs)) bs) where
   -- The key step: from a candidate up to the least high, past which the next one is, no box's claim ends.
   claims-reach : (v x : ℕ) (q : Packet) → v ≤ x → x ≤ least v (r .high) bs → Claimed (narrow v bs) q → Claimed bs (x ∷ q)
   claims-reach v x q l h c =
@@ -166,14 +158,14 @@ module _ (r : Range) (rs : Selector) (bs : List Selector) (sized : Sized (suc (l
       ]
 
   -- n candidates are enough where n reaches past the row's high.
-  tries-right : (rest : List Selector → Answer) → ((v : ℕ) → Right rs (narrow v bs) (rest (narrow v bs)))
+  tries-right : (rest : List Selector → SearchResult) → ((v : ℕ) → Right rs (narrow v bs) (rest (narrow v bs)))
       → (n v : ℕ) → Within r v → r .high < v + n → Passed v → Right (r ∷ rs) bs (tries rest n v (r .high) bs)
   unfolding tries
   tries-right rest ok zero v w e g = absurd (omega arith)
   tries-right rest ok (suc n) v w e g =
       go (rest (narrow v bs)) (ok v) (ltb (least v (r .high) bs) (r .high)) refl (λ x. tries-right rest ok n x)
     where
-      go : (o : Answer) → Right rs (narrow v bs) o → (t : Bool) → ltb (least v (r .high) bs) (r .high) ≡ t
+      go : (o : SearchResult) → Right rs (narrow v bs) o → (t : Bool) → ltb (least v (r .high) bs) (r .high) ≡ t
           → ((x : ℕ) → Within r x → r .high < x + n → Passed x → Right (r ∷ rs) bs (tries rest n x (r .high) bs))
           → Right (r ∷ rs) bs (or-later v o (onward (pick t (value (least v (r .high) bs + 1)) last) (λ x. tries rest n x (r .high) bs)))
       go (found p) m t l more = here v p w g m
@@ -188,12 +180,12 @@ module _ (r : Range) (rs : Selector) (bs : List Selector) (sized : Sized (suc (l
 -- ---- the search
 
 -- Where no field is left, a box claims the packet.
-no-fields : (b : Selector) (bs : List Selector) → Sized zero (b ∷ bs) → Right [] (b ∷ bs) none
+no-fields : (b : Selector) (bs : List Selector) → EachSized zero (b ∷ bs) → Right [] (b ∷ bs) none
 no-fields [] bs s q h = record { box = []; listed = List·Memᴰ·head refl; holds = h }
 no-fields (r ∷ b) bs s q h = absurd (omega arith)
 
 -- The row is to be ordered: its low is tried with no test that it is at most the high.
-pub search-right : (s : Selector) (bs : List Selector) → Ordered s → Sized (length s) bs → Right s bs (search s bs)
+pub search-right : (s : Selector) (bs : List Selector) → Ordered s → EachSized (length s) bs → Right s bs (search s bs)
 unfolding search from
 search-right [] [] o n = record { inside = holds-nothing; unclaimed = λ c. List·Memᴰ·not-nil (c .listed); least = lowest }
   where

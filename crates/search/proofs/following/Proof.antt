@@ -5,6 +5,7 @@ use native.Mathlib.Omega.{arith}
 use lib.ListN.{getD}
 use Prim.Native.Nat.{_-_, _≤_, _<_}
 use mathlib.Core.Path.{sym, ap, _∙_}
+use Rattle.policy.specs.Limits.{mostSelectors}
 use Rattle.policy.specs.Model.{Range}
 use Rattle.policy.specs.Views.{value}
 use Rattle.search.specs.Search.{lesser}
@@ -26,7 +27,7 @@ again c =
     (c .lesser .ensures ∙ ap (λ (r : Range). lesser (value (s .args .v)) (r .high) (value (t .before .loop .m))) (c .before .range-at .ensures))
 
 -- the number that was read is a selector's
-number : (c : tie.After-i I μ) → getD (c .before .before .before .args .t2 .at) (c .before .before .loop .k) 0 < 96
+number : (c : tie.After-i I μ) → getD (c .before .before .before .args .t2 .at) (c .before .before .loop .k) 0 < mostSelectors
 number c = c .before .before .before .pre .1 .within _ (c .before .loop-test .taken)
 
 small : tie.Need-cast-range-at I μ
@@ -42,18 +43,7 @@ below c = leb-false _ _ (sym (c .before .at-most .ensures) ∙ c .if1 .left)
 pub following-spec : {M : Type 1} → statement M
 following-spec =
     tie.close
-    (tie.spec
-    I
-    μ
-    (λ c. search needs)
-    (λ c. search needs)
-    (λ c. small c)
-    (λ c κs. (number c, search needs))
-    (λ c κs. search needs)
-    (λ c. search needs)
-    (λ c. search needs)
-    again
-    (λ c κs. search needs)
-    (λ c. scanned-last _ _ _ _ _ _ _ (c .before .before .before .loop .inv) (c .before .before .loop-test .left) (most c))
-    (λ c κs. below c)
+    (tie.spec I μ (λ c. search needs) (λ c. search needs) (λ c. small c) (λ c κs. (number c, search needs)) (λ c κs. search needs) (λ c. search needs)
+    (λ c. search needs) again (λ c κs. search needs)
+    (λ c. scanned-last _ _ _ _ _ _ _ (c .before .before .before .loop .inv) (c .before .before .loop-test .left) (most c)) (λ c κs. below c)
     (λ c. rw (c .next .ensures) (scanned-value _ _ _ _ _ _ _ (c .before .before .before .before .loop .inv) (c .before .before .before .loop-test .left) (below (c .before)))))

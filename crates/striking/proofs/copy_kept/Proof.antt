@@ -1,7 +1,7 @@
 -- `copy_kept` meets its contract: the bytes written, and those that are kept from here on, are all that are kept. Assumes nothing.
 use borrow.Author.Needs.{needs}
 use Prim.Native.Nat.{ℕ, _+_, _-_, _≤_, _<_}
-use mathlib.Core.Path.{_≡_, sym, ap, subst, _∙_}
+use mathlib.Core.Path.{_≡_, refl, sym, ap, subst, _∙_}
 use mathlib.Core.Bool.{Bool, true}
 use mathlib.Core.Logic.{⊎-elim}
 use mathlib.Core.List.{List, _∷_, _++_}
@@ -9,9 +9,10 @@ use native.Mathlib.Omega.{arith}
 use denote.Ref.{now}
 use lib.ListN.{length, getD, set, drop}
 use lib.Seq.{length-sets}
+use Rattle.base.specs.Truths.{pick}
 use Rattle.striking.specs.Bytes.{keeps, nextPlace, keptBytes}
-use Rattle.striking.proofs.Laws.Bytes.{at-kept, at-dropped, at-end, next-most}
-use Rattle.striking.proofs.Laws.Copying.{Copying, copying-start, copying-room, copying-next, copying-end}
+use Rattle.striking.proofs.Laws.Bytes.{at-next, at-end, next-most}
+use Rattle.base.proofs.Laws.Copying.{Copying, copying-start, copying-room, copying-next, copying-end}
 use Rattle.striking.proofs.copy_kept.Statement.{statement}
 use Rattle.striking.proofs.copy_kept.Tie as tie
 
@@ -51,11 +52,11 @@ module _ (c : tie.After-keeps I μ) where
   h : l .loop .i < length text
   h = c .before .before .loop-test .taken
 
+  next : keptBytes keep (l .loop .place) (drop (l .loop .i) text) ≡ pick (keep (l .loop .place)) (byte ∷ left) left
+  next = at-next keep text (l .loop .place) (l .loop .i) h (nextPlace (l .loop .place) byte) refl
+
   begun : c .keeps .result ≡ true → Copying (now (s .args .out)) (l .loop .out) (l .loop .n) whole (byte ∷ left)
-  begun e =
-      subst (Copying (now (s .args .out)) (l .loop .out) (l .loop .n) whole)
-      (at-kept keep text (l .loop .place) (l .loop .i) h (sym (c .keeps .ensures) ∙ e))
-      (l .loop .inv .2)
+  begun e = subst (Copying (now (s .args .out)) (l .loop .out) (l .loop .n) whole) (next ∙ rw (sym (c .keeps .ensures) ∙ e)) (l .loop .inv .2)
 
 room : tie.Need-slice-write-out I μ
 room c = copying-room (byte (c .before)) (begun (c .before) (c .if1 .taken)) (s (c .before) .pre)
@@ -84,7 +85,7 @@ again c =
             count = w .2 ∙ l k .loop .inv .2 .count;
             rest =
                 ap (λ (r : List ℕ). l k .loop .inv .2 .done ++ r)
-                (sym (at-dropped (keep k) (text k) (l k .loop .place) (l k .loop .i) b (sym (k .keeps .ensures) ∙ w .0 .left)))
+                (sym (next k ∙ rw (sym (k .keeps .ensures) ∙ w .0 .left)))
                 ∙ l k .loop .inv .2 .rest;
           })
           (c .before .if1 .came)),
@@ -108,17 +109,6 @@ written c =
 pub copy-kept-spec : {M : Type 1} → statement M
 copy-kept-spec =
     tie.close
-    (tie.spec
-    I
-    μ
-    (λ c. (omega arith, omega arith, copying-start _ _))
-    (λ c. search needs)
-    (λ c κs. search needs)
-    room
-    (λ c. let r = room c in let e = long (l (c .before)) in search needs)
-    (λ c κs. search needs)
-    (λ c. search needs)
-    (λ c. search needs)
-    again
-    (λ c. long (c .before))
-    written)
+    (tie.spec I μ (λ c. (omega arith, omega arith, copying-start _ _)) (λ c. search needs) (λ c κs. search needs) room
+    (λ c. let r = room c in let e = long (l (c .before)) in search needs) (λ c κs. search needs) (λ c. search needs) (λ c. search needs) again
+    (λ c. long (c .before)) written)

@@ -1,15 +1,16 @@
 -- `strike` meets its contract: the bytes of the lines that are kept are the struck text. Assumes nothing.
 use borrow.Author.Needs.{needs}
-use Prim.Native.Nat.{ℕ, _+_, _≤_, _<_}
+use Prim.Native.Nat.{ℕ, _≤_, _<_}
 use mathlib.Core.Path.{_≡_, refl, ap, _∙_}
+use mathlib.Core.Bool.{Bool}
 use mathlib.Core.List.{List}
 use native.Mathlib.Omega.{arith}
 use denote.Ref.{now}
 use lib.ListN.{length}
 use lib.Seq.{sets, length-sets}
-use Rattle.hex.proofs.Laws.Outputs.{fits-not, written-not, fits-all, written-stored}
+use Rattle.base.proofs.Laws.Outputs.{fits-not, written-not, fits-all, written-stored}
+use Rattle.policy.specs.Model.{linesBefore}
 use Rattle.policy.specs.Views.{tableOf}
-use Rattle.policy.specs.Wellformed.{Wellformed}
 use Rattle.policy.specs.declared.table.Table.{Table as TableStruct}
 use Rattle.policy.proofs.Laws.Tables.{sized, Counted, counted}
 use Rattle.reader.proofs.Laws.Wellformed.{accepted-wellformed}
@@ -20,9 +21,9 @@ use Rattle.striking.proofs.Laws.Bytes.{struck-bytes}
 use Rattle.striking.proofs.strike.Statement.{statement}
 use Rattle.striking.proofs.strike.Tie as tie
 
-module _ (c : tie.After-dead-rows) where
+module _ (c : tie.After-lines-before) where
   abbrev s : tie.Start
-  s = c .before .before .before
+  s = c .before .before .before .before
 
   abbrev t : TableStruct
   t = s .args .t
@@ -30,11 +31,8 @@ module _ (c : tie.After-dead-rows) where
   abbrev text : List ℕ
   text = now (s .args .text)
 
-  abbrev others : ℕ
-  others = t .entities + t .capped + 1 + t .filters
-
-  well : Wellformed (tableOf t)
-  well = accepted-wellformed text (tableOf t) (s .pre .1)
+  abbrev flags : List Bool
+  flags = c .before .dead-rows .result
 
   count : Counted t
   count = let z = sized t (s .good .1 .0) .caps in let h = s .pre .0 .capped in counted t (omega arith)
@@ -45,19 +43,18 @@ module _ (c : tie.After-dead-rows) where
   abbrev result : List ℕ
   result = struckText text (tableOf t)
 
-  struck : keptBytes (keeps (c .dead-rows .result) others) 0 text ≡ result
-  struck =
-      let n = count in
-      struck-bytes text (tableOf t) (s .pre .1) others (omega (arith, n .entities, n .caps, n .filters)) (c .dead-rows .result)
-      (c .dead-rows .ensures)
+  before : c .lines-before .result ≡ linesBefore 1 (tableOf t)
+  before = let n = count in omega (arith, c .lines-before .ensures, n .entities, n .caps, n .filters)
 
-  small : (t .entities ≤ 128) × (t .capped ≤ 6) × (t .filters ≤ 32)
-  small = let n = count in let w = well in (omega (arith, n .entities, w .few-entities), omega (arith, n .caps, w .six-caps), omega (arith, n .filters, w .few-filters))
+  struck : keptBytes (keeps flags (c .lines-before .result)) 0 text ≡ result
+  struck =
+      ap (λ (n : ℕ). keptBytes (keeps flags n) 0 text) before
+      ∙ struck-bytes text (tableOf t) (s .pre .1) flags (c .before .dead-rows .ensures)
 
 -- the length
 module _ (c : tie.After-kept-length) where
-  abbrev flagged : tie.After-dead-rows
-  flagged = c .before .before .before .before
+  abbrev flagged : tie.After-lines-before
+  flagged = c .before .before
 
   long : c .kept-length .result ≡ length (result flagged)
   long = c .kept-length .ensures ∙ ap length (struck flagged)
@@ -101,9 +98,7 @@ strike-spec =
     tie.close
     (tie.spec
     (λ c κs. (c .before .before .pre .0, accepted-wellformed _ _ (c .before .before .pre .1)))
-    (λ c. let l = small (c .before) in search needs)
-    (λ c. let l = small (c .before) in search needs)
-    (λ c. let l = small (c .before .before) in search needs)
+    (λ c κs. let h = c .before .before .before .pre .0 in (h .entities, h .capped, h .filters))
     (λ c κs. search needs)
     short
     room

@@ -7,15 +7,14 @@ use native.Mathlib.Omega.{arith}
 use lib.ListN.{take}
 use lib.Seq.{length-take-le, getD-take}
 use Rattle.policy.specs.Model.{Row, noRow, parentOf}
-use Rattle.policy.specs.Views.{parentIn, rowIn, rowsIn, tableOf, Held}
+use Rattle.policy.specs.Views.{rowIn, rowsIn, tableOf, Held}
 use Rattle.policy.specs.Wellformed.{Wellformed}
 use Rattle.policy.specs.declared.table.Table.{Table as TableStruct}
-use Rattle.policy.proofs.Laws.Lists.{tabulate-counted}
-use Rattle.policy.proofs.Laws.Runs.{length-rows, row-of-rows}
+use Rattle.base.proofs.Laws.Lists.{tabulate-counted}
+use Rattle.policy.proofs.Laws.Lists.{length-rows, row-of-rows}
 use Rattle.policy.proofs.Laws.Tables.{Sized, parents-same}
-use Rattle.relations.specs.Entities.{Parents}
 use Rattle.relations.proofs.Laws.Tables.{lent-parents}
-use Rattle.verdicts.specs.Verdicts.{verdictAfter, verdictOn}
+use Rattle.verdicts.specs.Verdicts.{verdictAfter, verdictOn, Asked, verdictIn}
 
 -- The first i rows of more.
 rows-before : (heads bounds : List ℕ) (i n : ℕ) → i ≤ n → rowsIn heads bounds i ≡ take i (rowsIn heads bounds n)
@@ -26,7 +25,7 @@ rows-before heads bounds i n h =
     (λ k b. sym (getD-take i (rowsIn heads bounds n) k noRow b ∙ row-of-rows heads bounds n k (omega arith)))
 
 pub lent-verdict : (t : TableStruct) → Sized t → Held t → (i : ℕ) → i < t .rows
-    → verdictAfter (parentIn (t .parents)) (rowsIn (t .heads) (t .bounds) i) (rowIn (t .heads) (t .bounds) i) ≡ verdictOn (tableOf t) i
+    → verdictIn (t .parents) (t .heads) (t .bounds) i ≡ verdictOn (tableOf t) i
 lent-verdict t s held i h =
     let n = held .entities in
     let m = s .parents in
@@ -36,12 +35,18 @@ lent-verdict t s held i h =
     ∙ ap (λ (r : Row). verdictAfter (parentOf (tableOf t)) (take i (tableOf t .rows)) r)
     (sym (row-of-rows (t .heads) (t .bounds) (t .rows) i h))
 
-pub lent-asked : (t : TableStruct) → Sized t → Held t → Wellformed (tableOf t) → (i : ℕ) → i < t .rows
-    → Parents (t .parents) × (i < 64) × (rowIn (t .heads) (t .bounds) i .source < 128) × (rowIn (t .heads) (t .bounds) i .destination < 128)
+pub lent-asked : (t : TableStruct) → Sized t → Held t → Wellformed (tableOf t) → (i : ℕ) → i < t .rows → Asked (t .parents) (t .heads) (t .bounds) i
 lent-asked t s held w i h =
     let n = length-rows (t .heads) (t .bounds) (t .rows) in
     let e = row-of-rows (t .heads) (t .bounds) (t .rows) i h in
     let r = w .row i (omega arith) in
     let f = ap (λ (q : Row). q .source) e in
     let g = ap (λ (q : Row). q .destination) e in
-    (lent-parents t s held w, omega (arith, held .rows), omega (arith, r .source, w .few-entities), omega (arith, r .destination, w .few-entities))
+    record {
+      row = omega (arith, held .rows);
+      ends = record {
+        parents = lent-parents t s held w;
+        source = omega (arith, r .source, w .few-entities);
+        destination = omega (arith, r .destination, w .few-entities);
+      };
+    }

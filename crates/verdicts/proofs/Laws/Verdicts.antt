@@ -1,28 +1,29 @@
--- The verdict on a row of a well-formed table is right. In order: the test whether a row covers another, the boxes of a cover,
--- what the cover of a row of a table claims, the verdict.
+-- The verdict on a row of a well-formed table is right. In order: the test whether a row covers another, what the cover of a
+-- row of a table claims, the verdict.
 -- Assumes nothing.
-use Prim.Native.Nat.{ℕ, zero, suc, _<_}
+use Prim.Native.Nat.{ℕ, _<_}
 use mathlib.Core.Path.{_≡_, refl, sym, ap, _∙_}
-use mathlib.Core.Bool.{Bool, true, false, _&&_}
+use mathlib.Core.Bool.{_&&_}
 use mathlib.Core.Logic.{inl, inr}
-use mathlib.Core.List.{List, [], _∷_, List·Memᴰ, List·Memᴰ·head, List·Memᴰ·tail, List·Memᴰ·not-nil, List·Memᴰ·cases-cons}
+use mathlib.Core.List.{List, List·Memᴰ}
 use native.Mathlib.Omega.{arith}
-use lib.ListN.{length, getD, take, length-take}
+use lib.ListN.{length, take, length-take}
 use lib.Seq.{getD-take}
-use Rattle.hex.specs.Digits.{pick}
+use Rattle.base.specs.Truths.{Decides}
 use Rattle.policy.specs.Model.{Selector, Packet, Row, Table, noRow, rowAt, parentOf}
 use Rattle.policy.specs.Wellformed.{Wellformed}
 use Rattle.policy.proofs.Laws.Tables.{five-ranges}
-use Rattle.relations.specs.Decides.{Decides}
 use Rattle.relations.specs.Entities.{AtOrAbove, atOrAbove}
 use Rattle.relations.specs.Groups.{SameGroup, sameGroup, Wins, Dead, Hides}
-use Rattle.relations.proofs.Laws.Decides.{decides-and, decides-holds}
+use Rattle.base.proofs.Laws.Decides.{decides-and, decides-holds}
 use Rattle.relations.proofs.Laws.Entities.{atOrAbove-decides}
 use Rattle.relations.proofs.Laws.Tables.{table-tree}
 use Rattle.relations.proofs.Laws.Groups.{sameGroup-decides, wins-own, hidden-or-wins}
-use Rattle.search.specs.Search.{Answer, found, none}
+use Rattle.search.specs.Search.{SearchResult, found, none}
 use Rattle.search.specs.Least.{Claimed, Least, Right}
-use Rattle.search.proofs.Laws.Right.{Sized, sized-listed, search-right}
+use Rattle.base.proofs.Laws.Members.{member-at, at-member}
+use Rattle.base.proofs.Laws.Passing.{passing-of, passing-in}
+use Rattle.search.proofs.Laws.Right.{EachSized, sized-listed, search-right}
 use Rattle.verdicts.specs.Verdicts.{covers, coverOf, verdictAfter, verdictOn}
 use Rattle.verdicts.specs.Promises.{Verdicts}
 
@@ -40,40 +41,6 @@ covers-decides up r q =
     (decides-and (atOrAbove up (q .source) (r .source)) (atOrAbove up (q .destination) (r .destination))
     (atOrAbove-decides up (q .source) (r .source)) (atOrAbove-decides up (q .destination) (r .destination)))
 
--- ---- the boxes of a cover
-
-module _ (up : ℕ → ℕ) (r : Row) where
-  -- A row of the list covers r, and b is its selector.
-  abbrev Boxed : List Row → Selector → Type 0
-  Boxed before b = (j : ℕ) × (j < length before) × (covers up r (getD before j noRow) ≡ true) × (b ≡ getD before j noRow .selector)
-
-  later : (q : Row) (before : List Row) (b : Selector) → Boxed before b → Boxed (q ∷ before) b
-  later q before b h = (suc (h .0), omega (arith, h .1), h .2, h .3)
-
-  -- Each box is the selector of a row that covers r.
-  cover-of : (before : List Row) (b : Selector) → List·Memᴰ b (coverOf up r before) → Boxed before b
-  unfolding coverOf
-  cover-of [] b m = absurd (List·Memᴰ·not-nil m)
-  cover-of (q ∷ before) b m = go (covers up r q) refl (λ k. later q before b (cover-of before b k)) m
-    where
-      go : (c : Bool) → covers up r q ≡ c → (List·Memᴰ b (coverOf up r before) → Boxed (q ∷ before) b)
-          → List·Memᴰ b (pick c (q .selector ∷ coverOf up r before) (coverOf up r before)) → Boxed (q ∷ before) b
-      go true e rest m = elim (List·Memᴰ·cases-cons m) [ inl s ↦ (0, omega arith, e, s) | inr k ↦ rest k ]
-      go false e rest m = rest m
-
-  -- And the selector of each row that covers r is a box.
-  cover-in : (before : List Row) (j : ℕ) → j < length before → covers up r (getD before j noRow) ≡ true
-      → List·Memᴰ (getD before j noRow .selector) (coverOf up r before)
-  unfolding coverOf
-  cover-in [] j l e = absurd (omega arith)
-  cover-in (q ∷ before) zero l e = rw e (List·Memᴰ·head refl)
-  cover-in (q ∷ before) (suc j) l e =
-      let rest = cover-in before j (omega arith) e in
-      elim (covers up r q) as (λ c. List·Memᴰ (getD before j noRow .selector) (pick c (q .selector ∷ coverOf up r before) (coverOf up r before))) [
-        | true ↦ List·Memᴰ·tail rest
-        | false ↦ rest
-      ]
-
 -- ---- what the cover of a row of a table claims
 
 module _ (t : Table) (i : ℕ) where
@@ -87,11 +54,13 @@ module _ (t : Table) (i : ℕ) where
   -- Each box is the selector of an earlier row that covers row i.
   box-of : (b : Selector) → List·Memᴰ b cover
       → (j : ℕ) × (j < i) × Covers (parentOf t) (rowAt t i) (rowAt t j) × (b ≡ rowAt t j .selector)
+  unfolding coverOf
   box-of b m =
-      let h = cover-of (parentOf t) (rowAt t i) (take i (t .rows)) b m in
-      let l : h .0 < i = omega (arith, h .1, length-take i (t .rows)) in
-      let s = getD-take i (t .rows) (h .0) noRow l in
-      (h .0, l, covers-at (h .0) .yes (rw s at (h .2)), h .3 ∙ ap (λ q. q .selector) s)
+      let h = passing-of (covers (parentOf t) (rowAt t i)) (λ q. q .selector) (take i (t .rows)) b m in
+      let k = member-at noRow (h .0) (take i (t .rows)) (h .1) in
+      let l : k .0 < i = omega (arith, k .1, length-take i (t .rows)) in
+      let s : h .0 ≡ rowAt t (k .0) = sym (k .2) ∙ getD-take i (t .rows) (k .0) noRow l in
+      (k .0, l, covers-at (k .0) .yes (rw s at (h .2)), h .3 ∙ ap (λ (q : Row). q .selector) s)
 
   -- What the cover claims an earlier row hides,
   claimed-hidden : (p : Packet) → Claimed cover p → (j : ℕ) × Hides t j i p
@@ -110,13 +79,14 @@ module _ (t : Table) (i : ℕ) where
 
   -- and what an earlier row hides the cover claims.
   hidden-claimed : i < length (t .rows) → (j : ℕ) (p : Packet) → Hides t j i p → Claimed cover p
+  unfolding coverOf
   hidden-claimed row j p h =
       let s = getD-take i (t .rows) j noRow (h .earlier) in
       let e = decides-holds (covers (parentOf t) (rowAt t i) (rowAt t j)) (covers-at j) (h .group, (h .source, h .destination)) in
-      let l : j < length (take i (t .rows)) = omega (arith, length-take i (t .rows)) in
+      let m : List·Memᴰ (rowAt t j) (take i (t .rows)) = rw s at (at-member noRow (take i (t .rows)) j (omega (arith, length-take i (t .rows), h .earlier))) in
       record {
         box = rowAt t j .selector;
-        listed = rw s at (cover-in (parentOf t) (rowAt t i) (take i (t .rows)) j l (rw s e));
+        listed = passing-in (covers (parentOf t) (rowAt t i)) (λ q. q .selector) (take i (t .rows)) (rowAt t j) m e;
         holds = h .packet;
       }
 
@@ -124,7 +94,7 @@ module _ (t : Table) (i : ℕ) where
 
 module _ (t : Table) (w : Wellformed t) (i : ℕ) (row : i < length (t .rows)) where
   -- Every box has as many ranges as row i's selector.
-  sized-cover : Sized (length (rowAt t i .selector)) (cover t i)
+  sized-cover : EachSized (length (rowAt t i .selector)) (cover t i)
   sized-cover = sized-listed (length (rowAt t i .selector)) (cover t i) five
     where
       five : (b : Selector) → List·Memᴰ b (cover t i) → length b ≡ length (rowAt t i .selector)
@@ -172,7 +142,7 @@ module _ (t : Table) (w : Wellformed t) (i : ℕ) (row : i < length (t .rows)) w
           let r : Right (rowAt t i .selector) (cover t i) none = rw e at verdict-right in
           won-unclaimed a b p o (r p (o .matches .packet))
 
-      dead-none : (o : Answer) → verdictOn t i ≡ o → Dead t i → verdictOn t i ≡ none
+      dead-none : (o : SearchResult) → verdictOn t i ≡ o → Dead t i → verdictOn t i ≡ none
       dead-none (found p) e d =
           absurd (d (rowAt t i .source) (rowAt t i .destination) p (w .row i row .source) (w .row i row .destination) (own-wins p e))
       dead-none none e d = e

@@ -4,33 +4,15 @@ use Rattle.verdicts.specs.Verdicts.{covers}
 use Rattle.verdicts.proofs.covers.Statement.{statement}
 use Rattle.verdicts.proofs.covers.Tie as tie
 
-yes-covers : tie.Need-returns
+same-group : tie.Need-returns
 unfolding covers
-yes-covers c =
-    let g = c .before .before .before in
-    rw (
-      ← g .before .same-group .ensures,
-      g .if1 .taken,
-      ← c .before .before .at-or-above .ensures,
-      ← c .before .at-or-above2 .ensures,
-      c .if2 .taken,
-    )
+same-group c =
+    let g = c .before .before in
+    rw (← g .before .same-group .ensures, g .if1 .taken, ← c .before .at-or-above .ensures, ← c .at-or-above2 .ensures)
 
-not-above : tie.Need-returns-2
-unfolding covers
-not-above c =
-    let g = c .before .before .before in
-    rw (
-      ← g .before .same-group .ensures,
-      g .if1 .taken,
-      ← c .before .before .at-or-above .ensures,
-      ← c .before .at-or-above2 .ensures,
-      c .if2 .left,
-    )
-
-other-group : tie.Need-returns-3
+other-group : tie.Need-returns-2
 unfolding covers
 other-group c = rw (← c .before .same-group .ensures, c .if1 .left)
 
 pub covers-spec : {M : Type 1} → statement M
-covers-spec = tie.close (tie.spec (λ c κs. search needs) (λ c κs. search needs) (λ c κs. search needs) yes-covers not-above other-group)
+covers-spec = tie.close (tie.spec (λ c κs. search needs) (λ c κs. search needs) (λ c κs. search needs) same-group other-group)

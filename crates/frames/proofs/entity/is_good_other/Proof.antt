@@ -4,7 +4,7 @@ use borrow.Author.Tests.{lt-ltb, le-ltb}
 use denote.Ref.{now}
 use mathlib.Core.Bool.{and-false}
 use lib.Seq.{getD-take}
-use Rattle.frames.proofs.Laws.Rules.{first-counted}
+use Rattle.frames.proofs.Laws.Numbers.{first-counted}
 use Rattle.frames.proofs.entity.is_good_other.Statement.{statement}
 use Rattle.frames.proofs.entity.is_good_other.Tie as tie
 

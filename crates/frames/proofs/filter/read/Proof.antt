@@ -1,4 +1,4 @@
--- `filter::read` meets its contract: the root's byte and the selector stand in their places. Assumes nothing.
+-- `filter::read` meets its contract: the root's byte and the box stand in their places. Assumes nothing.
 use borrow.Author.Needs.{needs}
 use Rattle.frames.proofs.filter.read.Statement.{statement}
 use Rattle.frames.proofs.filter.read.Tie as tie

@@ -10,7 +10,8 @@ use mathlib.Core.Bool.{_&&_}
 use mathlib.Core.List.{List}
 use lib.ListN.{length, getD, take, drop, drop-of-length-le}
 use lib.Seq.{length-take-le, getD-take, drop-cons}
-use Rattle.frames.specs.Rules.{isRoot, allRoots}
+use Rattle.policy.specs.Limits.{mostGateways}
+use Rattle.frames.specs.Numbers.{isRoot, allRoots}
 use Rattle.frames.proofs.numbers.all_roots.Statement.{statement}
 use Rattle.frames.proofs.numbers.all_roots.Tie as tie
 
@@ -23,7 +24,7 @@ abbrev μ : tie.MeasureT-loop
 -- there are as many gateways as are asked for
 long : (s : tie.Start I μ) → length (take (s .args .n) (s .args .t3)) ≡ s .args .n
 long s =
-    let e : length (s .args .t3) ≡ 8 = search needs in
+    let e : length (s .args .t3) ≡ mostGateways = search needs in
     length-take-le (s .args .n) (s .args .t3) (omega arith)
 
 -- In a turn, the gateway at k decides, or else those after it.
@@ -60,14 +61,4 @@ end c =
 pub all-roots-spec : {M : Type 1} → statement M
 all-roots-spec =
     tie.close
-    (tie.spec
-    I
-    μ
-    (λ c. search needs)
-    (λ c. search needs)
-    (λ c κs. search needs)
-    stop
-    (λ c. search needs)
-    (λ c. search needs)
-    next
-    end)
+    (tie.spec I μ (λ c. search needs) (λ c. search needs) (λ c κs. search needs) stop (λ c. search needs) (λ c. search needs) next end)

@@ -3,8 +3,8 @@ use borrow.Author.Needs.{needs}
 use borrow.Author.Tests.{lt-ltb, le-ltb}
 use denote.Ref.{now}
 use lib.Seq.{getD-take}
-use Rattle.frames.specs.Rules.{isRoot}
-use Rattle.frames.proofs.Laws.Rules.{first-counted}
+use Rattle.frames.specs.Numbers.{isRoot}
+use Rattle.frames.proofs.Laws.Numbers.{first-counted}
 use Rattle.frames.proofs.numbers.is_root.Statement.{statement}
 use Rattle.frames.proofs.numbers.is_root.Tie as tie
 

@@ -1,9 +1,10 @@
 -- `has_numbers` meets its contract: it is the test of each number, and the gateways are as many as there are. Assumes nothing.
 use borrow.Author.Needs.{needs}
 use denote.Ref.{now}
-use Rattle.relations.proofs.Laws.Lists.{take-own}
-use Rattle.frames.specs.Rules.{isEntity, rowNumbers}
-use Rattle.frames.proofs.Laws.Rules.{first-counted}
+use Rattle.base.proofs.Laws.Members.{take-own}
+use Rattle.frames.specs.Numbers.{isEntity}
+use Rattle.frames.specs.Rows.{rowNumbers}
+use Rattle.frames.proofs.Laws.Numbers.{first-counted}
 use Rattle.frames.proofs.row.has_numbers.Statement.{statement}
 use Rattle.frames.proofs.row.has_numbers.Tie as tie
 
@@ -27,10 +28,5 @@ returns c =
 pub has-numbers-spec : {M : Type 1} → statement M
 has-numbers-spec =
     tie.close
-    (tie.spec
-    (λ c κs. search needs)
-    (λ c κs. search needs)
-    (λ c κs. search needs)
-    (λ c κs. search needs)
-    (λ c κs. search needs)
+    (tie.spec (λ c κs. search needs) (λ c κs. search needs) (λ c κs. search needs) (λ c κs. search needs) (λ c. search needs) (λ c κs. search needs)
     returns)

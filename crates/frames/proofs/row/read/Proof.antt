@@ -2,25 +2,37 @@
 use borrow.Author.Needs.{needs}
 use denote.Ref.{now}
 use native.Mathlib.Omega.{arith}
-use Prim.Native.Nat.{_+_, _*_, _≤_}
+use Prim.Native.Nat.{ℕ, _+_, _*_, _≤_}
+use mathlib.Core.List.{List}
 use lib.ListN.{length, getD}
+use Rattle.policy.specs.Limits.{mostGateways}
 use Rattle.hex.specs.Lines.{bytesOf}
 use Rattle.hex.proofs.Laws.Lines.{length-bytesOf}
-use Rattle.frames.proofs.Laws.Values.{row-counted}
+use Rattle.frames.specs.Parts.{boxOf}
+use Rattle.frames.specs.Rows.{countPlace}
+use Rattle.frames.proofs.Laws.Rows.{row-counted}
 use Rattle.frames.proofs.row.read.Statement.{statement}
 use Rattle.frames.proofs.row.read.Tie as tie
 
 -- the part has room for the gateways that it counts
-room : (s : tie.Start) → (getD (bytesOf (now (s .args .part))) 33 0 ≤ 8) × (2 * (34 + getD (bytesOf (now (s .args .part))) 33 0) ≤ length (now (s .args .part)))
-room s =
-    let l = now (s .args .part) in
-    let r = row-counted (bytesOf l) (s .pre) in
-    (r .0, omega (arith, r .1, length-bytesOf l))
+module _ (s : tie.Start) where
+  abbrev bs : List ℕ
+  bs = bytesOf (now (s .args .part))
+
+  abbrev place : ℕ
+  place = countPlace (boxOf (s .args .address))
+
+  room : (getD bs place 0 ≤ mostGateways) × (2 * (place + 1 + getD bs place 0) ≤ length (now (s .args .part)))
+  room =
+      let r = row-counted (boxOf (s .args .address)) bs (s .pre .0) in
+      (r .0, omega (arith, r .1, length-bytesOf (now (s .args .part))))
 
 returns : tie.Need-returns
 returns c =
     let g = c .before .before .before .before .before .before in
+    let p = g .before .before in
     rw (
+      ← p .count-place .ensures,
       g .gateways .ensures,
       g .before .u8-at .ensures,
       c .before .before .before .before .before .u8-at2 .ensures,
@@ -31,17 +43,23 @@ returns c =
       c .selector .ensures,
     )
 
+-- what is read of a row lies in it, for each call
+module _ (c : tie.After-count-place) where
+  lies : (getD (bs (c .before .before)) (c .count-place .result) 0 ≤ mostGateways)
+      × (2 * (c .count-place .result + 1 + getD (bs (c .before .before)) (c .count-place .result) 0) ≤ length (now (c .before .before .args .part)))
+  lies = rw (c .count-place .ensures) (room (c .before .before))
+
 pub read-spec : {M : Type 1} → statement M
 read-spec =
     tie.close
-    (tie.spec
-    (λ c κs. omega (arith, room (c .before)))
-    (λ c. search needs)
-    (λ c κs. omega (arith, room (c .before .before)))
-    (λ c κs. omega (arith, room (c .before .before .before)))
+    (tie.spec (λ c κs. search needs)
+    (λ c κs. omega (arith, lies c))
+    (λ c. search needs) (λ c. search needs)
+    (λ c κs. omega (arith, lies (c .before), c .u8-at .ensures))
     (λ c κs. omega (arith, room (c .before .before .before .before)))
     (λ c κs. omega (arith, room (c .before .before .before .before .before)))
     (λ c κs. omega (arith, room (c .before .before .before .before .before .before)))
     (λ c κs. omega (arith, room (c .before .before .before .before .before .before .before)))
     (λ c κs. omega (arith, room (c .before .before .before .before .before .before .before .before)))
+    (λ c κs. let s = c .before .before .before .before .before .before .before .before .before in omega (arith, room s))
     returns)

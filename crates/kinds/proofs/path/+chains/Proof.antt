@@ -9,13 +9,14 @@ use borrow.Author.Tests.{not-true, not-false}
 use borrow.Fn.Kinds.{In}
 use borrow.Fn.PlainCycle.{Measures, is, falls, and}
 use denote.Ref.{now}
-use lib.ListN.{getD}
 use Rattle.policy.specs.Model.{Selector}
 use Rattle.policy.specs.Views.{selectorOf, selectorIn}
 use Rattle.relations.specs.Selectors.{meet}
-use Rattle.kinds.specs.Views.{visitedOf}
-use Rattle.kinds.specs.Tests.{some, goesOn, chains as chained}
-use Rattle.kinds.proofs.Laws.Loops.{some-start, some-none, some-found}
+use Rattle.kinds.specs.Views.{fromIn, toIn, visitedOf}
+use Rattle.base.specs.Lists.{some}
+use Rattle.kinds.specs.Tests.{chains as chained}
+use Rattle.kinds.specs.Seen.{chainsIn}
+use Rattle.base.proofs.Laws.Members.{some-start, some-none, some-found}
 use Rattle.kinds.proofs.Laws.Chains.{next, next-off, next-last, next-only, next-on, chains-some, chains-none}
 use Rattle.kinds.proofs.path.chains.Reads as chains
 use Rattle.kinds.proofs.path.chains.Kinds as chains-kinds
@@ -29,7 +30,7 @@ use Rattle.kinds.proofs.path.+chains.Tie.{close}
 
 -- the rows still allowed
 abbrev μ-chains : Measures 1 chains-kinds.ps ℕ
-μ-chains κs a = a .1 .1 .1 .1 .0
+μ-chains κs a = a .1 .1 .1 .0
 
 abbrev at : ℕ → In 1 chains-kinds.ps
 at t = and 1 chains-kinds.ps (is 1 chains-kinds.ps μ-chains t) chains.Pre
@@ -38,14 +39,14 @@ abbrev below : ℕ → In 1 chains-kinds.ps
 below t = and 1 chains-kinds.ps (falls 1 chains-kinds.ps _<_ μ-chains t) chains.Pre
 
 -- whether row j is the next of a chain that may have one row fewer
-abbrev test : (bounds from to : List ℕ) (rows left b a : ℕ) (visited : List ℕ) (s : Selector) → ℕ → Bool
-test bounds from to rows left b a visited s = next (λ k. getD from k 0) (λ k. getD to k 0) (selectorIn bounds) rows (left - 1) b a visited s
+abbrev test : (bounds roots : List ℕ) (rows left b a : ℕ) (visited : List ℕ) (s : Selector) → ℕ → Bool
+test bounds roots rows left b a visited s = next (fromIn roots) (toIn roots) (selectorIn bounds) rows (left - 1) b a visited s
 
 abbrev I : lts.InvT-loop
-I bounds from to rows left b a visited s j₀ j = (j ≤ rows) × (some j (test bounds from to rows left b a (visitedOf visited) (selectorOf s)) ≡ false)
+I bounds roots rows left b a visited s j₀ j = (j ≤ rows) × (some j (test bounds roots rows left b a (visitedOf visited) (selectorOf s)) ≡ false)
 
 abbrev μ : lts.MeasureT-loop
-μ bounds from to rows left b a visited s j₀ j = rows - j
+μ bounds roots rows left b a visited s j₀ j = rows - j
 
 module _ (t : ℕ) where
   abbrev calls : lts.Claims
@@ -69,18 +70,11 @@ module _ (t : ℕ) where
   module _ (s : Start) where
     abbrev tests : ℕ → Bool
     tests =
-        test (now (s .args .bounds)) (now (s .args .from)) (now (s .args .to)) (s .args .rows) (s .args .left) (s .args .b) (s .args .a)
-        (visitedOf (s .args .visited)) (selectorOf (s .args .s))
-
-    abbrev goes : ℕ → Bool
-    goes j =
-        goesOn (λ k. getD (now (s .args .from)) k 0) (λ k. getD (now (s .args .to)) k 0) (selectorIn (now (s .args .bounds))) j (s .args .a)
+        test (now (s .args .bounds)) (now (s .args .roots)) (s .args .rows) (s .args .left) (s .args .b) (s .args .a)
         (visitedOf (s .args .visited)) (selectorOf (s .args .s))
 
     abbrev answer : ℕ → Bool
-    answer left =
-        chained (λ k. getD (now (s .args .from)) k 0) (λ k. getD (now (s .args .to)) k 0) (selectorIn (now (s .args .bounds))) (s .args .rows) left (s .args .b)
-        (s .args .a) (visitedOf (s .args .visited)) (selectorOf (s .args .s))
+    answer left = chainsIn (now (s .args .bounds)) (now (s .args .roots)) (s .args .rows) left (s .args .b) (s .args .a) (s .args .visited) (s .args .s)
 
     whole : (s .args .left ≡ 0 → ⊥) → answer (s .args .left) ≡ some (s .args .rows) tests
     whole ne =
@@ -130,7 +124,7 @@ module _ (t : ℕ) where
     w = c .before
 
     abbrev m : lts.After-meet calls (at t) chains.Post I μ
-    m = w .before .before .before
+    m = w .before
 
     abbrev g : lts.After-goes-on calls (at t) chains.Post I μ
     g = m .before .before .before .before .before
@@ -143,8 +137,8 @@ module _ (t : ℕ) where
 
     tested : tests s (l .loop .j) ≡ c .chains .result
     tested =
-        let from : ℕ → ℕ = λ k. getD (now (s .args .from)) k 0 in
-        let to : ℕ → ℕ = λ k. getD (now (s .args .to)) k 0 in
+        let from = fromIn (now (s .args .roots)) in
+        let to = toIn (now (s .args .roots)) in
         let selector = selectorIn (now (s .args .bounds)) in
         let j = l .loop .j in
         let q = m .before in
@@ -177,14 +171,14 @@ module _ (t : ℕ) where
 
   with-room : lts.Need-with-requires calls (at t) chains.Post I μ
   with-room c κs =
-      let i = c .before .before .before .before .before .before .before .before .before .before in
+      let i = c .before .before .before .before .before .before .before .before in
       let n = i .if1 .left in
       let r = i .before .pre .1 .1 in
       omega arith
 
   fewer : lts.Need-chains-requires calls (at t) chains.Post I μ
   fewer c κs =
-      let i = c .before .before .before .before .before .before .before .before .before .before .before in
+      let i = c .before .before .before .before .before .before .before .before .before in
       let n = i .if1 .left in
       let e = i .before .pre .0 in
       let r = i .before .pre .1 .1 in
@@ -195,25 +189,6 @@ pub +chains-spec : {M : Type 1} → statement M
 +chains-spec =
     close μ-chains
     (λ t.
-    lts.spec (calls t) (at t) chains.Post I μ
-    (none-allowed t)
-    (starts t)
-    (λ c. search needs)
-    (λ c κs. search needs)
-    (λ c. search needs)
-    (off t)
-    (λ c. search needs)
-    (last t)
-    (λ c. search needs)
-    (only t)
-    (λ c κs. search needs)
-    (λ c κs. search needs)
-    (λ c. search needs)
-    (λ c. let l = c .before .before .before .before .before .before .before in let h = l .before .before .pre .1 .0 in let k = c .before .before .before .before .before .before .loop-test .taken in omega arith)
-    (λ c. let l = c .before .before .before .before .before .before .before .before in let h = l .before .before .pre .1 .0 in let k = c .before .before .before .before .before .before .before .loop-test .taken in omega arith)
-    (with-room t)
-    (fewer t)
-    (on t)
-    (λ c. search needs)
-    (no-further t)
-    (end t))
+    lts.spec (calls t) (at t) chains.Post I μ (none-allowed t) (starts t) (λ c. search needs) (λ c κs. search needs) (λ c. search needs) (off t)
+    (λ c. search needs) (λ c. search needs) (λ c. search needs) (last t) (λ c. search needs) (only t) (λ c κs. search needs) (λ c κs. search needs)
+    (λ c. search needs) (with-room t) (fewer t) (on t) (λ c. search needs) (no-further t) (end t))

@@ -11,10 +11,5 @@ returns c = rw (← c .before .selector-at .ensures) (c .chains .ensures)
 pub alternative-path-spec : {M : Type 1} → statement M
 alternative-path-spec =
     tie.close
-    (tie.spec
-    (λ c. search needs)
-    (λ c. search needs)
-    (λ c. search needs)
-    (λ c κs. search needs)
-    (λ c κs. search needs)
-    returns)
+    (tie.spec (λ c. search needs) (λ c. search needs) (λ c. search needs) (λ c. search needs) (λ c. search needs) (λ c κs. search needs)
+    (λ c κs. search needs) returns)

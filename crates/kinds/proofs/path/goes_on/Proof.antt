@@ -28,13 +28,5 @@ onward c =
 pub goes-on-spec : {M : Type 1} → statement M
 goes-on-spec =
     tie.close
-    (tie.spec
-    (λ c. search needs)
-    elsewhere
-    (λ c. search needs)
-    (λ c κs. search needs)
-    visited
-    (λ c κs. search needs)
-    (λ c κs. search needs)
-    (λ c κs. search needs)
-    onward)
+    (tie.spec (λ c. search needs) (λ c. search needs) elsewhere (λ c. search needs) (λ c. search needs) (λ c. search needs) (λ c κs. search needs)
+    visited (λ c κs. search needs) (λ c κs. search needs) (λ c κs. search needs) onward)

@@ -1,6 +1,6 @@
 -- `is_gateway` meets its contract: the gateways are as many as they are counted. Assumes nothing.
 use borrow.Author.Needs.{needs}
-use Rattle.relations.proofs.Laws.Lists.{take-own}
+use Rattle.base.proofs.Laws.Members.{take-own}
 use Rattle.kinds.proofs.roots.is_gateway.Statement.{statement}
 use Rattle.kinds.proofs.roots.is_gateway.Tie as tie
 

@@ -1,6 +1,5 @@
 -- `asymmetric` meets its contract: no row before j answers row i. Assumes nothing.
 use borrow.Author.Needs.{needs}
-use native.Mathlib.Omega.{arith}
 use Prim.Native.Nat.{ℕ, _-_, _≤_}
 use mathlib.Core.Path.{_≡_, sym, ap, _∙_}
 use mathlib.Core.Bool.{Bool, false}
@@ -8,8 +7,9 @@ use mathlib.Core.List.{List}
 use denote.Ref.{now}
 use Rattle.policy.specs.Model.{Row}
 use Rattle.policy.specs.Views.{rowOf, rowIn}
-use Rattle.kinds.specs.Tests.{some, answers, asymmetric}
-use Rattle.kinds.proofs.Laws.Loops.{some-start, some-none, some-found}
+use Rattle.base.specs.Lists.{some}
+use Rattle.kinds.specs.Tests.{answers, asymmetric}
+use Rattle.base.proofs.Laws.Members.{some-start, some-none, some-found, some-end}
 use Rattle.kinds.proofs.single.asymmetric.Statement.{statement}
 use Rattle.kinds.proofs.single.asymmetric.Tie as tie
 
@@ -63,22 +63,9 @@ unfolding asymmetric
 none c =
     let l = c .before .loop in
     let a = c .before .before .before .args in
-    let h = c .loop-test .left in
-    let e : a .rows ≡ l .j = omega arith in
-    rw (e, l .inv .1)
+    rw (some-end (test (now (a .heads)) (now (a .bounds)) (a .i)) (a .rows) (l .j) (l .inv .0) (c .loop-test .left) (l .inv .1))
 
 pub asymmetric-spec : {M : Type 1} → statement M
 asymmetric-spec =
     tie.close
-    (tie.spec
-    I
-    μ
-    (λ c κs. search needs)
-    starts
-    (λ c κs. search needs)
-    (λ c κs. search needs)
-    answered
-    (λ c. search needs)
-    (λ c. search needs)
-    next
-    none)
+    (tie.spec I μ (λ c κs. search needs) starts (λ c κs. search needs) (λ c κs. search needs) answered (λ c. search needs) (λ c. search needs) next none)

@@ -2,7 +2,7 @@
 use borrow.Author.Needs.{needs}
 use mathlib.Core.Path.{_≡_}
 use lib.ListN.{take}
-use Rattle.relations.proofs.Laws.Lists.{take-own}
+use Rattle.base.proofs.Laws.Members.{take-own}
 use Rattle.kinds.specs.Tests.{twice, cyclic}
 use Rattle.kinds.proofs.Laws.Roots.{twice-between}
 use Rattle.kinds.proofs.single.cyclic.Statement.{statement}

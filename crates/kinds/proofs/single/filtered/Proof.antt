@@ -1,94 +1,50 @@
--- `filtered` meets its contract: no filter before k filters the row, so that what is left from k on decides. Assumes nothing.
+-- `filtered` meets its contract: no filter before k filters the row. Assumes nothing.
 use borrow.Author.Needs.{needs}
-use native.Mathlib.Omega.{arith}
-use Prim.Native.Nat.{_-_, _<_}
+use Prim.Native.Nat.{ℕ, _-_, _≤_}
 use mathlib.Core.Path.{_≡_, sym, ap, _∙_}
-use mathlib.Core.Bool.{Bool, _&&_}
-use mathlib.Core.List.{List}
+use mathlib.Core.Bool.{Bool, false}
 use denote.Ref.{now}
-use lib.ListN.{length, getD, drop}
-use Rattle.policy.specs.Model.{Filter, noFilter}
-use Rattle.policy.specs.Lists.{tabulate}
-use Rattle.policy.specs.Views.{rowOf, filterOf, filterIn}
-use Rattle.policy.proofs.Laws.Lists.{length-tabulate, getD-tabulate}
-use Rattle.relations.specs.Lists.{among}
-use Rattle.kinds.specs.Tests.{filtered}
-use Rattle.kinds.proofs.Laws.Loops.{filters, filtered-here, filtered-next, filtered-end}
+use Rattle.base.specs.Lists.{some}
+use Rattle.base.proofs.Laws.Members.{some-start, some-none, some-found, some-end}
+use Rattle.policy.specs.Views.{rowOf, filterIn}
+use Rattle.kinds.specs.Tests.{filters, filtered}
 use Rattle.kinds.proofs.single.filtered.Statement.{statement}
 use Rattle.kinds.proofs.single.filtered.Tie as tie
 
 abbrev I : tie.InvT-loop
-I filter-roots bounds n r k₀ k =
-    filtered (tabulate (filterIn filter-roots bounds) n) (rowOf r)
-    ≡ filtered (drop k (tabulate (filterIn filter-roots bounds) n)) (rowOf r)
+I filter-roots bounds count r k₀ k = (k ≤ count) × (some k (λ j. filters (rowOf r) (filterIn filter-roots bounds j)) ≡ false)
 
 abbrev μ : tie.MeasureT-loop
-μ filter-roots bounds n r k₀ k = n - k
+μ filter-roots bounds count r k₀ k = count - k
 
--- the filters of the function's start
-abbrev all : tie.Start I μ → List Filter
-all s = tabulate (filterIn (now (s .args .filter-roots)) (now (s .args .bounds))) (s .args .filters)
+-- whether a filter filters the row
+abbrev tests : tie.Start I μ → ℕ → Bool
+tests s k = filters (rowOf (s .args .r)) (filterIn (now (s .args .filter-roots)) (now (s .args .bounds)) k)
 
--- there are as many as are counted, and the test that was made is that of filter k
-module _ (c : tie.After-contains I μ) where
-  abbrev asked : tie.Start I μ
-  asked = c .before .before .before .before .before
-
-  abbrev loop : tie.At-loop I μ
-  loop = c .before .before .before .before
-
-  in-filters : loop .loop .k < length (all asked)
-  in-filters =
-      let n = length-tabulate (filterIn (now (asked .args .filter-roots)) (now (asked .args .bounds))) (asked .args .filters) in
-      let h = c .before .before .before .loop-test .taken in
-      omega arith
-
-  tested : filters (rowOf (asked .args .r)) (getD (all asked) (loop .loop .k) noFilter)
-      ≡ (c .before .is-gateway .result && c .contains .result)
-  tested =
-      let f = c .before .before .filter-at in
-      let read : getD (all asked) (loop .loop .k) noFilter ≡ filterOf (f .result) =
-      getD-tabulate (filterIn (now (asked .args .filter-roots)) (now (asked .args .bounds))) (asked .args .filters) (loop .loop .k)
-      noFilter (c .before .before .before .loop-test .taken)
-      ∙ sym (f .ensures) in
-      ap (λ (x : Filter). filters (rowOf (asked .args .r)) x) read
-      ∙ sym
-      (ap (λ (t : Bool). t && c .contains .result) (c .before .is-gateway .ensures)
-      ∙ ap (λ (t : Bool). among (f .result .root) (rowOf (asked .args .r) .gateways) && t) (c .contains .ensures))
+-- the test that was made is that of filter k
+tested : (c : tie.After-filters I μ) → tests (c .before .before .before .before) (c .before .before .before .loop .k) ≡ c .filters .result
+tested c = sym (c .filters .ensures ∙ ap (filters (rowOf (c .before .before .before .before .args .r))) (c .before .filter-at .ensures))
 
 found : tie.Need-returns I μ
+unfolding filtered
 found c =
-    let m = c .before in
-    sym
-    (loop m .loop .inv
-    ∙ filtered-here (all (asked m)) (rowOf (asked m .args .r)) (loop m .loop .k) (in-filters m) (tested m ∙ c .if1 .taken))
+    let f = c .before in
+    let l = f .before .before .before in
+    sym (some-found (tests (l .before)) _ (l .loop .k) (f .before .before .loop-test .taken) (tested f ∙ c .if1 .taken))
 
 next : tie.Need-loop-again I μ
 next c =
-    let m = c .before in
-    loop m .loop .inv
-    ∙ filtered-next (all (asked m)) (rowOf (asked m .args .r)) (loop m .loop .k) (in-filters m) (tested m ∙ c .if1 .left)
+    let f = c .before in
+    let l = f .before .before .before in
+    (search needs, some-none (tests (l .before)) (l .loop .k) (l .loop .inv .1) (tested f ∙ c .if1 .left))
 
 end : tie.Need-returns-2 I μ
+unfolding filtered
 end c =
     let l = c .before .loop in
-    let s = c .before .before in
-    let n = length-tabulate (filterIn (now (s .args .filter-roots)) (now (s .args .bounds))) (s .args .filters) in
-    let h = c .loop-test .left in
-    sym (l .inv ∙ filtered-end (all s) (rowOf (s .args .r)) (l .k) (omega arith))
+    sym (some-end (tests (c .before .before)) _ (l .k) (l .inv .0) (c .loop-test .left) (l .inv .1))
 
 pub filtered-spec : {M : Type 1} → statement M
 filtered-spec =
     tie.close
-    (tie.spec
-    I
-    μ
-    (λ c. search needs)
-    (λ c κs. search needs)
-    (λ c κs. search needs)
-    (λ c κs. search needs)
-    found
-    (λ c. search needs)
-    (λ c. search needs)
-    next
-    end)
+    (tie.spec I μ (λ c. (search needs, some-start (tests c))) (λ c κs. search needs) (λ c κs. search needs) found (λ c. search needs) (λ c. search needs) next end)

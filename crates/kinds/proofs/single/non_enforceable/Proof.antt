@@ -6,9 +6,10 @@ use Prim.Native.Nat.{_-_}
 use mathlib.Core.Path.{_≡_, _∙_}
 use mathlib.Core.List.{[], map}
 use lib.ListN.{length, getD, length-map, List·getD-map}
+use Rattle.policy.specs.Limits.{technologies}
 use Rattle.policy.specs.Views.{coefficientsOf}
 use Rattle.policy.specs.declared.row.Coefficients.{Coefficients}
-use Rattle.policy.proofs.Laws.Lists.{getD-default}
+use Rattle.base.proofs.Laws.Lists.{getD-default}
 use Rattle.kinds.specs.Tests.{nonEnforceable}
 use Rattle.kinds.proofs.single.non_enforceable.Statement.{statement}
 use Rattle.kinds.proofs.single.non_enforceable.Tie as tie
@@ -25,7 +26,7 @@ capped : (s : tie.Start)
     → getD (map coefficientsOf (s .args .t3)) (s .args .r .technology - 1) []
     ≡ coefficientsOf (getD (s .args .t3) (s .args .r .technology - 1) none)
 capped s =
-    let n : length (s .args .t3) ≡ 6 = search needs in
+    let n : length (s .args .t3) ≡ technologies = search needs in
     let m = length-map (s .args .t3) coefficientsOf in
     let k = s .args .r .technology - 1 in
     getD-default (map coefficientsOf (s .args .t3)) k [] (coefficientsOf none) (omega (arith, s .pre))
@@ -42,13 +43,5 @@ other c =
 pub non-enforceable-spec : {M : Type 1} → statement M
 non-enforceable-spec =
     tie.close
-    (tie.spec
-    null
-    (λ c. search needs)
-    (λ c. search needs)
-    (λ c. search needs)
-    (λ c. search needs)
-    (λ c κs. search needs)
-    (λ c κs. search needs)
-    (λ c κs. search needs)
-    other)
+    (tie.spec null (λ c. search needs) (λ c. search needs) (λ c. search needs) (λ c. search needs) (λ c κs. search needs) (λ c κs. search needs)
+    (λ c κs. search needs) other)

@@ -3,7 +3,7 @@ use borrow.Author.Needs.{needs}
 use borrow.Author.Tests.{not-true, not-false}
 use mathlib.Core.Path.{_≡_, sym, _∙_}
 use lib.ListN.{take}
-use Rattle.relations.proofs.Laws.Lists.{take-own}
+use Rattle.base.proofs.Laws.Members.{take-own}
 use Rattle.kinds.specs.Tests.{inOrder, rides}
 use Rattle.kinds.proofs.single.rides.Statement.{statement}
 use Rattle.kinds.proofs.single.rides.Tie as tie

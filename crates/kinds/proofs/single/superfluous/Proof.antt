@@ -6,9 +6,10 @@ use mathlib.Core.Path.{_≡_, sym, ap, _∙_}
 use mathlib.Core.Bool.{Bool, false, not, _&&_, _||_, and-false, and-true}
 use denote.Ref.{now}
 use lib.Dec.{eqb}
-use Rattle.kinds.specs.Tests.{some, rides, strictlyStronger, superfluous}
+use Rattle.base.specs.Lists.{some}
+use Rattle.kinds.specs.Tests.{rides, strictlyStronger, superfluous}
 use Rattle.kinds.specs.Views.{Placed, placedOf, placedIn}
-use Rattle.kinds.proofs.Laws.Loops.{some-start, some-more, some-none, some-found}
+use Rattle.base.proofs.Laws.Members.{some-start, some-more, some-none, some-found}
 use Rattle.kinds.proofs.single.superfluous.Statement.{statement}
 use Rattle.kinds.proofs.single.superfluous.Tie as tie
 
@@ -21,17 +22,17 @@ module _ (at : ℕ → Placed) (i j : ℕ) where
   weak = riding && not (strictlyStronger (at j .row .coefficients) (at i .row .coefficients))
 
 abbrev I : tie.InvT-loop
-I heads bounds from to rows i p ridden₀ j₀ ridden j =
+I heads bounds roots rows i p ridden₀ j₀ ridden j =
     (j ≤ rows)
-    × (ridden ≡ some j (riding (placedIn heads bounds from to) i))
-    × (some j (weak (placedIn heads bounds from to) i) ≡ false)
+    × (ridden ≡ some j (riding (placedIn heads bounds roots) i))
+    × (some j (weak (placedIn heads bounds roots) i) ≡ false)
 
 abbrev μ : tie.MeasureT-loop
-μ heads bounds from to rows i p ridden₀ j₀ ridden j = rows - j
+μ heads bounds roots rows i p ridden₀ j₀ ridden j = rows - j
 
 -- the rows of the function's start
 abbrev rowsOf : tie.Start I μ → ℕ → Placed
-rowsOf s = placedIn (now (s .args .heads)) (now (s .args .bounds)) (now (s .args .from)) (now (s .args .to))
+rowsOf s = placedIn (now (s .args .heads)) (now (s .args .bounds)) (now (s .args .roots))
 
 starts : tie.Need-loop-holds I μ
 starts c =
@@ -104,16 +105,5 @@ end c =
 pub superfluous-spec : {M : Type 1} → statement M
 superfluous-spec =
     tie.close
-    (tie.spec
-    I
-    μ
-    (λ c κs. search needs)
-    starts
-    (λ c κs. search needs)
-    (λ c κs. search needs)
-    (λ c κs. search needs)
-    weaker
-    (λ c. search needs)
-    (λ c. search needs)
-    next
-    end)
+    (tie.spec I μ (λ c κs. search needs) starts (λ c κs. search needs) (λ c κs. search needs) (λ c κs. search needs) weaker (λ c. search needs)
+    (λ c. search needs) next end)

@@ -1,28 +1,42 @@
 -- `of_pair` meets its contract: of boxes that overlap it asks for each kind, and of others there are none. Assumes nothing.
 use borrow.Author.Needs.{needs}
-use mathlib.Core.Path.{sym, ap, _∙_}
-use mathlib.Core.Bool.{Bool, false}
-use mathlib.Core.List.{List, [], _∷_, _++_}
+use borrow.Author.Tests.{not-true, not-false}
+use mathlib.Core.Path.{refl, sym, ap, _∙_}
 use denote.Ref.{now}
-use lib.ListN.{replicate}
 use Rattle.policy.specs.Views.{parentIn}
 use Rattle.kinds.specs.Views.{placedOf}
-use Rattle.kinds.specs.Tests.{pairTests}
+use Rattle.kinds.specs.Kinds.{pairTests}
 use Rattle.kinds.specs.declared.pair.Pair.{Pair}
 use Rattle.kinds.proofs.Laws.Apart.{apart-none}
-use Rattle.listing.specs.Marks.{number}
+use Rattle.listing.specs.Marks.{bitsOf}
 use Rattle.listing.proofs.marks.of_pair.Statement.{statement}
 use Rattle.listing.proofs.marks.of_pair.Tie as tie
 
--- the nine tests at their kinds' numbers
-placed : (a b c d e f g h k : Bool) → List Bool
-placed a b c d e f g h k =
-    replicate 5 false ++ (a ∷ b ∷ c ∷ d ∷ e ∷ f ∷ g ∷ false ∷ h ∷ replicate 4 false) ++ (k ∷ false ∷ false ∷ [])
+apart : tie.Need-returns
+unfolding bitsOf
+apart c =
+    let s = c .before .before in
+    sym
+    (ap bitsOf
+    (apart-none (parentIn (now (s .args .parents))) (s .args .i) (s .args .j) (placedOf (s .args .p)) (placedOf (s .args .q)) (s .pre .1 .ordered) (s .pre .2 .ordered)
+    (sym (c .before .overlaps .ensures) ∙ not-true _ (c .if1 .taken))))
 
-overlapping : tie.Need-returns
-unfolding placed
+asked : tie.Need-pair-of-requires
+asked c κs =
+    let s = c .before .before in (
+      s .pre .0,
+      record {
+        source = s .pre .1 .source;
+        destination = s .pre .1 .destination;
+        other-source = s .pre .2 .source;
+        other-destination = s .pre .2 .destination;
+        overlap = sym (c .before .overlaps .ensures) ∙ not-false _ (c .if1 .left);
+      },
+    )
+
+overlapping : tie.Need-returns-2
 overlapping c =
-    let m = c .before in
+    let m = c .before .before in
     let s = m .before in
     let k = s .before in
     let a = k .before in
@@ -31,46 +45,23 @@ overlapping c =
     let e = r .before in
     let d = e .before in
     let h = d .before in
-    let p = h .before in
-    c .number .ensures
-    ∙ (λ w.
-    number
-    (placed
-    (h .shadowing .ensures w)
-    (d .redundancy .ensures w)
-    (e .exception .ensures w)
-    (r .correlation .ensures w)
-    (i .inclusion .ensures w)
-    (a .affinity .ensures w)
-    (k .contradiction .ensures w)
-    (s .skewed .ensures w)
-    (m .monitorable .ensures w)))
-    ∙ ap (λ (q : Pair). number (pairTests q)) (p .pair-of .ensures)
-
-apart : tie.Need-returns-2
-unfolding number
-apart c =
-    let s = c .before .before in
-    sym
-    (ap number
-    (apart-none (parentIn (now (s .args .parents))) (s .args .i) (s .args .j) (placedOf (s .args .p)) (placedOf (s .args .q)) (s .pre .1 .ordered) (s .pre .2 .ordered)
-    (sym (c .before .overlaps .ensures) ∙ c .if1 .left)))
+    rw (
+      h .shadowing .ensures,
+      d .redundancy .ensures,
+      e .exception .ensures,
+      r .correlation .ensures,
+      i .inclusion .ensures,
+      a .affinity .ensures,
+      k .contradiction .ensures,
+      s .skewed .ensures,
+      m .monitorable .ensures,
+    ) at (c .bits-of .ensures)
+    ∙ ap (λ (q : Pair). bitsOf (pairTests q)) (h .before .pair-of .ensures)
 
 pub of-pair-spec : {M : Type 1} → statement M
 of-pair-spec =
     tie.close
-    (tie.spec
-    (λ c κs. search needs)
-    (λ c κs. let s = c .before .before in (s .pre .0, s .pre .1 .source, s .pre .1 .destination, s .pre .2 .source, s .pre .2 .destination))
-    (λ c κs. search needs)
-    (λ c κs. search needs)
-    (λ c κs. search needs)
-    (λ c κs. search needs)
-    (λ c κs. search needs)
-    (λ c κs. search needs)
-    (λ c κs. search needs)
-    (λ c κs. search needs)
-    (λ c κs. search needs)
-    (λ c κs. search needs)
-    overlapping
-    apart)
+    (tie.spec (λ c κs. search needs) apart asked (λ c κs. search needs) (λ c. search needs) (λ c κs. search needs) (λ c. search needs)
+    (λ c κs. search needs) (λ c. search needs) (λ c κs. search needs) (λ c. search needs) (λ c κs. search needs) (λ c. search needs)
+    (λ c κs. search needs) (λ c. search needs) (λ c κs. search needs) (λ c. search needs) (λ c κs. search needs) (λ c. search needs)
+    (λ c κs. search needs) (λ c. search needs) (λ c κs. refl) overlapping)

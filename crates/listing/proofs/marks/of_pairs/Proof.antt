@@ -1,48 +1,38 @@
--- `of_pairs` meets its contract: at the places before j stand the kinds of row i with each row. Assumes nothing.
+-- `of_pairs` meets its contract: the kinds of row i with each row before j, and then zeros. Assumes nothing.
 use borrow.Author.Needs.{needs}
-use Prim.Native.Nat.{ℕ, _+_, _-_, _≤_, _<_}
-use mathlib.Core.Path.{_≡_, refl, sym, subst, _∙_}
+use Prim.Native.Nat.{ℕ, _-_, _≤_}
+use mathlib.Core.Path.{_≡_, sym, ap, subst, _∙_}
 use mathlib.Core.List.{List}
 use native.Mathlib.Omega.{arith}
 use denote.Ref.{now}
-use lib.ListN.{length, set, length-set}
+use lib.ListN.{set}
+use Rattle.policy.specs.Limits.{mostRows}
 use Rattle.policy.specs.Views.{parentIn}
-use Rattle.policy.proofs.Laws.Lists.{filled-more}
-use Rattle.kinds.specs.Views.{Placed, placedIn}
-use Rattle.kinds.specs.Tests.{pairOf, pairTests}
-use Rattle.listing.specs.Marks.{number, GoodRow, PairsMarked}
+use Rattle.kinds.specs.Views.{Placed}
+use Rattle.kinds.specs.Tests.{pairOf}
+use Rattle.kinds.specs.Kinds.{pairTests}
+use Rattle.base.proofs.Laws.Filled.{filled-start, filled-next}
+use Rattle.listing.specs.Marks.{bitsOf, GoodRow, MarkedPairs, pairMarks}
 use Rattle.listing.proofs.marks.of_pairs.Statement.{statement}
 use Rattle.listing.proofs.marks.of_pairs.Tie as tie
 
 abbrev I : tie.InvT-loop
-I parents heads bounds from to rows i p pairs₀ j₀ pairs j =
-    (j ≤ rows) × ((length pairs ≡ 64) × PairsMarked parents heads bounds from to j i pairs)
+I parents heads bounds roots rows i p pairs₀ j₀ pairs j = (j ≤ rows) × MarkedPairs parents heads bounds roots j i pairs
 
 abbrev μ : tie.MeasureT-loop
-μ parents heads bounds from to rows i p pairs₀ j₀ pairs j = rows - j
+μ parents heads bounds roots rows i p pairs₀ j₀ pairs j = rows - j
 
--- one row more
-marked-more : (parents heads bounds from to pairs : List ℕ) (i j x : ℕ) → j < length pairs → PairsMarked parents heads bounds from to j i pairs
-    → x ≡ number (pairTests (pairOf (parentIn parents) i j (placedIn heads bounds from to i) (placedIn heads bounds from to j)))
-    → PairsMarked parents heads bounds from to (j + 1) i (set pairs j x)
-marked-more parents heads bounds from to pairs i j x h r e =
-    record {
-      at =
-          filled-more 0 (λ k. number (pairTests (pairOf (parentIn parents) i k (placedIn heads bounds from to i) (placedIn heads bounds from to k)))) pairs j x h
-          (r .at) e;
-    }
+good : {p q : Placed} → p ≡ q → GoodRow (q .row) → GoodRow (p .row)
+good e g = subst (λ (x : Placed). GoodRow (x .row)) (sym e) g
 
 asked : tie.Need-of-pair-requires I μ
 asked c κs =
     let l = c .before .before in
     let s = l .before .before in (
-      s .pre .0,
-      ap-good (l .before .placed-at .ensures) (s .pre .1 (s .args .i) (s .pre .3)),
-      ap-good (c .placed-at2 .ensures) (s .pre .1 (l .loop .j) (c .before .loop-test .taken)),
+      s .pre .tree,
+      good (l .before .placed-at .ensures) (s .pre .each (s .args .i) (s .pre .row)),
+      good (c .placed-at2 .ensures) (s .pre .each (l .loop .j) (c .before .loop-test .taken)),
     )
-  where
-    ap-good : {p q : Placed} → p ≡ q → GoodRow (q .row) → GoodRow (p .row)
-    ap-good e g = subst (λ (x : Placed). GoodRow (x .row)) (sym e) g
 
 again : tie.Need-loop-again I μ
 again c =
@@ -50,37 +40,33 @@ again c =
     let s = l .before .before in
     let a = s .args in
     let h = c .before .before .loop-test .taken in
-    let n = s .pre .2 in
-    let m = l .loop .inv .1 .0 in (
+    let n = s .pre .few in (
       omega arith,
-      (
-        length-set (l .loop .pairs) (l .loop .j) (c .of-pair .result) ∙ m,
-        marked-more (now (a .parents)) (now (a .heads)) (now (a .bounds)) (now (a .from)) (now (a .to)) (l .loop .pairs) (a .i) (l .loop .j) (c .of-pair .result) (omega arith)
-            (l .loop .inv .1 .1)
+      record {
+        whole =
+            ap (λ (r : List ℕ). set r (l .loop .j) (c .of-pair .result)) (l .loop .inv .1 .whole)
+            ∙ filled-next 0 (pairMarks (now (a .parents)) (now (a .heads)) (now (a .bounds)) (now (a .roots)) (a .i)) mostRows (l .loop .j) (c .of-pair .result) (omega arith)
             (c .of-pair .ensures
-            ∙ (λ w. number (pairTests (pairOf (parentIn (now (a .parents))) (a .i) (l .loop .j) (l .before .placed-at .ensures w) (c .before .placed-at2 .ensures w))))),
-      ),
+            ∙ (λ w. bitsOf (pairTests (pairOf (parentIn (now (a .parents))) (a .i) (l .loop .j) (l .before .placed-at .ensures w) (c .before .placed-at2 .ensures w)))));
+      },
     )
 
 returns : tie.Need-returns I μ
 returns c =
     let l = c .before .loop in
     let h = c .loop-test .left in
-    record { at = λ k b. l .inv .1 .1 .at k (let m = l .inv .0 in omega arith) }
+    let m = l .inv .0 in
+    let e : l .j ≡ c .before .before .before .args .rows = omega arith in
+    rw e at (l .inv .1)
 
 pub of-pairs-spec : {M : Type 1} → statement M
 of-pairs-spec =
     tie.close
-    (tie.spec
-    I
-    μ
-    (λ c κs. let h = c .pre .3 in let n = c .pre .2 in omega arith)
-    (λ c. (omega arith, (refl, record { at = λ j h. absurd (omega arith) })))
-    (λ c κs. let h = c .loop-test .taken in let n = c .before .before .before .pre .2 in omega arith)
+    (tie.spec I μ
+    (λ c κs. let h = c .pre .row in let n = c .pre .few in omega arith)
+    (λ c. (omega arith, record { whole = filled-start 0 _ mostRows }))
+    (λ c κs. let h = c .loop-test .taken in let n = c .before .before .before .pre .few in omega arith)
     asked
-    (λ c. let h = c .before .before .loop-test .taken in let n = c .before .before .before .before .before .pre .2 in omega arith)
-    (λ c. let h = c .before .before .loop-test .taken in let n = c .before .before .before .before .before .pre .2 in omega arith)
-    (λ c. search needs)
-    (λ c. search needs)
-    again
-    returns)
+    (λ c. let h = c .before .before .loop-test .taken in let n = c .before .before .before .before .before .pre .few in omega arith)
+    (λ c. let h = c .before .before .loop-test .taken in let n = c .before .before .before .before .before .pre .few in omega arith)
+    (λ c. search needs) (λ c. search needs) again returns)

@@ -3,18 +3,19 @@ use Prim.Native.Nat.{suc, _+_, _*_, _≤_}
 use mathlib.Core.Path.{_≡_, refl}
 use native.Mathlib.Numerals.{add-one}
 use native.Mathlib.Omega.{arith}
-use Rattle.listing.specs.Bytes.{bytes}
+use Rattle.kinds.specs.Entries.{mostEntries}
+use Rattle.listing.specs.Bytes.{entryBytes, bytes}
 use Rattle.listing.proofs.put.put.Statement.{statement}
 use Rattle.listing.proofs.put.put.Tie as tie
 
 -- there is room for the entry
-room : (c : tie.Then1) → c .before .args .n + 1 ≤ 12800
+room : (c : tie.Then1) → c .before .args .n + 1 ≤ mostEntries
 room c = rw (c .if1 .taken) at (c .before .pre)
 
 stored : tie.Need-returns
 unfolding bytes
 stored c =
-    let at = 3 * c .before .args .n in
+    let at = entryBytes * c .before .args .n in
     let two : at + 2 ≡ suc (suc at) = omega arith in
     rw (c .if1 .taken) (record { stored = rw (add-one at, two) refl; count = refl })
 
@@ -33,5 +34,4 @@ put-spec =
     (λ c. let h = room c in omega arith)
     (λ c. let h = room c in omega arith)
     (λ c. let h = room c in omega arith)
-    stored
-    nothing)
+    stored nothing)

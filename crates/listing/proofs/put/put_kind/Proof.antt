@@ -5,6 +5,7 @@ use native.Mathlib.Omega.{arith}
 use denote.Ref.{now}
 use lib.ListN.{length, length-append}
 use Rattle.kinds.specs.Kinds.{noSecond}
+use Rattle.kinds.specs.Entries.{mostEntries}
 use Rattle.listing.specs.Marks.{marked, listedIf, pairsMarked}
 use Rattle.listing.proofs.Laws.Puts.{put-then}
 use Rattle.listing.proofs.put.put_kind.Statement.{statement}
@@ -12,7 +13,7 @@ use Rattle.listing.proofs.put.put_kind.Tie as tie
 
 -- there is room for the entries with each row, and for the row's own after them
 both : (s : tie.Start)
-    → (s .args .n + (length (pairsMarked (now (s .args .pairs)) (s .args .rows) (s .args .i) (s .args .kind)) + length (listedIf (marked (s .args .own) (s .args .kind)) (s .args .i) (s .args .kind) noSecond))) ≤ 12800
+    → (s .args .n + (length (pairsMarked (now (s .args .pairs)) (s .args .rows) (s .args .i) (s .args .kind)) + length (listedIf (marked (s .args .own) (s .args .kind)) (s .args .i) (s .args .kind) noSecond))) ≤ mostEntries
 both s =
     let e = length-append (pairsMarked (now (s .args .pairs)) (s .args .rows) (s .args .i) (s .args .kind)) (listedIf (marked (s .args .own) (s .args .kind)) (s .args .i) (s .args .kind) noSecond) in
     omega (arith, s .pre .0)

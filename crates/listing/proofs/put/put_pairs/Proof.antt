@@ -51,16 +51,5 @@ returns c =
 pub put-pairs-spec : {M : Type 1} → statement M
 put-pairs-spec =
     tie.close
-    (tie.spec
-    I
-    μ
-    starts
-    (λ c. search needs)
-    (λ c. search needs)
-    (λ c. search needs)
-    (λ c κs. search needs)
-    room
-    (λ c. search needs)
-    (λ c. search needs)
-    again
-    returns)
+    (tie.spec I μ starts (λ c. search needs) (λ c. search needs) (λ c. search needs) (λ c κs. search needs) room (λ c. search needs)
+    (λ c. search needs) again returns)

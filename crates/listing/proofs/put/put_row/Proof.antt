@@ -1,8 +1,9 @@
 -- `put_row` meets its contract: what is left of the entries begins with those of the kind. Assumes nothing.
 use borrow.Author.Needs.{needs}
-use Prim.Native.Nat.{_-_, _≤_}
+use Prim.Native.Nat.{_+_, _-_, _≤_}
 use native.Mathlib.Omega.{arith}
 use denote.Ref.{now}
+use Rattle.kinds.specs.Kinds.{kindCount}
 use Rattle.listing.specs.Marks.{kindMarked, rowMarked}
 use Rattle.listing.proofs.Laws.Puts.{Going, going-start, from, from-room, from-next, from-end}
 use Rattle.listing.proofs.put.put_row.Statement.{statement}
@@ -10,10 +11,10 @@ use Rattle.listing.proofs.put.put_row.Tie as tie
 
 abbrev I : tie.InvT-loop
 I staged₀ n i own pairs rows m₀ kind₀ staged m kind =
-    (kind ≤ 21) × Going staged₀ n staged m (rowMarked own pairs rows i) (from (kindMarked own pairs rows i) 21 kind)
+    (kind ≤ kindCount + 1) × Going staged₀ n staged m (rowMarked own pairs rows i) (from (kindMarked own pairs rows i) (kindCount + 1) kind)
 
 abbrev μ : tie.MeasureT-loop
-μ staged₀ n i own pairs rows m₀ kind₀ staged m kind = 21 - kind
+μ staged₀ n i own pairs rows m₀ kind₀ staged m kind = (kindCount + 1) - kind
 
 starts : tie.Need-loop-holds I μ
 starts c = (omega arith, going-start _ _ _)
@@ -23,30 +24,22 @@ room c κs =
     let l = c .before .before in
     let a = l .before .args in
     let h = c .before .loop-test .taken in
-    (from-room (kindMarked (a .own) (now (a .pairs)) (a .rows) (a .i)) 21 (l .loop .kind) h (l .loop .inv .1) (l .before .pre .0), l .before .pre .1, omega arith)
+    (from-room (kindMarked (a .own) (now (a .pairs)) (a .rows) (a .i)) (kindCount + 1) (l .loop .kind) (omega arith) (l .loop .inv .1) (l .before .pre .0), l .before .pre .1, omega arith)
 
 again : tie.Need-loop-again I μ
 again c =
     let l = c .before .before .before in
     let a = l .before .args in
     let h = c .before .before .loop-test .taken in
-    (omega arith, from-next (kindMarked (a .own) (now (a .pairs)) (a .rows) (a .i)) 21 (l .loop .kind) h (l .loop .inv .1) (c .put-kind .ensures))
+    (omega arith, from-next (kindMarked (a .own) (now (a .pairs)) (a .rows) (a .i)) (kindCount + 1) (l .loop .kind) (omega arith) (l .loop .inv .1) (c .put-kind .ensures))
 
 returns : tie.Need-returns I μ
 returns c =
     let l = c .before in
     let a = l .before .args in
-    from-end (kindMarked (a .own) (now (a .pairs)) (a .rows) (a .i)) 21 (l .loop .kind) (let h = c .loop-test .left in omega arith) (l .loop .inv .1)
+    from-end (kindMarked (a .own) (now (a .pairs)) (a .rows) (a .i)) (kindCount + 1) (l .loop .kind) (let h = c .loop-test .left in omega arith) (l .loop .inv .1)
 
 pub put-row-spec : {M : Type 1} → statement M
 put-row-spec =
     tie.close
-    (tie.spec
-    I
-    μ
-    starts
-    room
-    (λ c. search needs)
-    (λ c. search needs)
-    again
-    returns)
+    (tie.spec I μ starts room (λ c. search needs) (λ c. search needs) again returns)

@@ -8,14 +8,15 @@ use native.Mathlib.Omega.{arith}
 use borrow.Author.Needs.{needs}
 use lib.ListN.{length, drop, drop-of-length-le}
 use lib.Seq.{sets, drop-cons}
+use Rattle.policy.specs.Limits.{headCount}
 use Rattle.policy.proofs.table.put_head.Statement.{statement}
 use Rattle.policy.proofs.table.put_head.Tie as tie
 
 abbrev Inv-loop : tie.InvT-loop
-Inv-loop heads₀ i head h c₀ heads c = (c ≤ 16) × (sets heads (h + c) (drop c head) ≡ sets heads₀ h head)
+Inv-loop heads₀ i head h c₀ heads c = (c ≤ headCount) × (sets heads (h + c) (drop c head) ≡ sets heads₀ h head)
 
 abbrev μ-loop : tie.MeasureT-loop
-μ-loop heads₀ i head h c₀ heads c = 16 - c
+μ-loop heads₀ i head h c₀ heads c = headCount - c
 
 loop-holds : tie.Need-loop-holds Inv-loop μ-loop
 loop-holds c = (search needs, rw add-zero)
@@ -29,8 +30,8 @@ loop-again c =
 returns : tie.Need-returns Inv-loop μ-loop
 returns c =
     let head = c .before .before .args .t3 in
-    let e : c .before .loop .c ≡ 16 = omega arith in
-    let k : length head ≤ 16 = search needs in
+    let e : c .before .loop .c ≡ headCount = omega arith in
+    let k : length head ≤ headCount = search needs in
     rw (e, drop-of-length-le head k) at (c .before .loop .inv .1)
 
 pub put-head-spec : {M : Type 1} → statement M
@@ -41,10 +42,6 @@ put-head-spec =
     μ-loop
     (λ c. search needs)
     loop-holds
-    (λ c. search needs)
-    (λ c. search needs)
-    (λ c. search needs)
-    (λ c. search needs)
-    (λ c. search needs)
+    (λ c. search needs) (λ c. search needs) (λ c. search needs) (λ c. search needs) (λ c. search needs)
     loop-again
     returns)

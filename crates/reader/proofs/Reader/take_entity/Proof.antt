@@ -1,128 +1,82 @@
--- `Reader::take_entity` meets its contract: each way is the first condition that the frame breaks, or none. Assumes nothing.
+-- `Reader::take_entity` meets its contract: each way is what an entity's line comes to. Assumes nothing.
 use borrow.Author.Needs.{needs}
-use borrow.Author.Tests.{not-true, not-false, ltb-true}
-use native.Mathlib.Omega.{arith}
-use mathlib.Core.Path.{_≡_, refl, sym, ap, _∙_}
-use mathlib.Core.Bool.{true, and-eq-true-iff}
-use mathlib.Core.List.{List}
-use Prim.Native.Nat.{ℕ, suc, _<_}
 use denote.Ref.{now}
-use lib.Dec.{eqb, ltb}
-use lib.ListN.{take}
+use mathlib.Core.Path.{refl}
+use mathlib.Core.List.{List}
+use native.Mathlib.Omega.{arith}
+use Prim.Native.Nat.{ℕ}
+use Rattle.base.specs.Checks.{refusal}
 use Rattle.hex.specs.Lines.{bytesOf}
-use Rattle.policy.specs.Model.{Entity}
-use Rattle.policy.specs.Views.{withEntity, tableOf}
-use Rattle.policy.proofs.Laws.Tables.{layers-taken}
-use Rattle.frames.specs.Checks.{refusal}
-use Rattle.frames.specs.Rules.{entityContent}
-use Rattle.frames.specs.Values.{entityLength, entityFrom}
-use Rattle.reader.specs.Frames.{frameOfKind}
-use Rattle.reader.specs.States.{Progress, mayEntity, grown}
-use Rattle.reader.specs.Views.{progressOf, things}
-use Rattle.reader.proofs.Laws.States.{things-entity}
-use Rattle.reader.proofs.Laws.Readers.{reads, table-sized, table-counted}
-use Rattle.reader.proofs.Laws.Takings.{Taking, taking-entity, by-length, by-sequence, by-content, by-none, bytes-there}
+use Rattle.policy.proofs.Laws.Tables.{Counted, layers-taken}
+use Rattle.frames.specs.Entities.{entityFrom, entityContent}
+use Rattle.frames.specs.Kinds.{ofEntity}
+use Rattle.frames.proofs.Laws.Parts.{bytes-there}
+use Rattle.frames.proofs.Laws.Entities.{few-entities}
+use Rattle.reader.specs.Views.{progressOf}
+use Rattle.reader.specs.declared.Reader.{Reader}
+use Rattle.reader.proofs.Laws.Readers.{table-counted, layers-lent}
+use Rattle.reader.proofs.Laws.Takings.{Fit, Content, fit-by, content-by, has-form, has-room, by-misfit, by-content, by-value}
 use Rattle.reader.proofs.Reader.take_entity.Statement.{statement}
 use Rattle.reader.proofs.Reader.take_entity.Tie as tie
 
--- what is asked: the progress, the bytes, and what is tested of them
 module _ (s : tie.Start) where
-  abbrev p : Progress
-  p = progressOf (s .args .t1)
+  abbrev r : Reader
+  r = s .args .t1
 
   abbrev bs : List ℕ
   bs = bytesOf (now (s .args .part))
 
-  abbrev taking : Taking p (frameOfKind 1 bs)
-  taking = taking-entity p bs
+  counts : Counted (r .table)
+  counts = table-counted r (s .good .0) (s .pre)
 
-abbrev asked : tie.Else1 → tie.Start
-asked c = c .before .before .before
-
--- the frame has its length
-long : (c : tie.Else1) → entityLength (bs (asked c)) ≡ true
-long c = sym (c .before .is-long .ensures) ∙ not-false _ (c .if1 .left)
-
--- the test of the sequence that was made
-may : (c : tie.After-may-entity) → mayEntity (p (asked (c .before))) ≡ c .may-entity .result
-may c =
-    let s = asked (c .before) in
-    let n = table-counted (s .args .t1) (s .good .0) (s .pre .0) in
-    rw (n .caps, n .entities) (sym (c .may-entity .ensures))
-
--- it can go on, and so there is room
-placed : (c : tie.Else2) → mayEntity (p (asked (c .before .before))) ≡ true
-placed c = may (c .before) ∙ not-false _ (c .if2 .left)
-
-room : (c : tie.Else2) → asked (c .before .before) .args .t1 .table .entities < 128
-room c =
-    let m = c .before in
-    let r = asked (m .before) .args .t1 in
-    let h = sym (m .may-entity .ensures) ∙ not-false _ (c .if2 .left) in
-    ltb-true _ _ (and-eq-true-iff (eqb (r .table .capped) 0) (ltb (r .table .entities) 128) .0 h .1)
-
--- the rules of its content that were tested
-tested : (c : tie.After-refusal) → refusal (taking (asked (c .before .before .before .before .before .before)) .content) ≡ c .refusal .result
-tested c =
-    let s = asked (c .before .before .before .before .before .before) in
-    let z = table-sized (s .args .t1) (s .good .0) in
-    let h = s .pre .0 .held .entities in
-    let t = s .args .t1 .table in
-    ap (λ (l : List ℕ). refusal (entityContent l (entityFrom (bs s)))) (layers-taken t (omega arith))
-    ∙ ap (λ (v : Entity). refusal (entityContent (take (t .entities) (t .layers)) v)) (sym (c .before .before .before .read .ensures))
-    ∙ sym (c .refusal .ensures)
-
-short : tie.Need-returns
-short c =
+-- the tests of its form and its place
+fit : (c : tie.After-misfit) → let s = c .before .before .before .before in Fit (r s) ofEntity (bs s) (c .misfit .result)
+fit c =
     let s = c .before .before .before .before in
-    by-length (taking s) (things (p s)) (sym (c .before .before .is-long .ensures) ∙ not-true _ (c .before .if1 .taken)) (c .refuse .ensures)
+    let p = c .before in
+    fit-by (r s) ofEntity (bs s) (p .before .has-length .result) (p .has-place .result) (p .before .has-length .ensures)
+    (rw (counts s .caps, counts s .entities) (p .has-place .ensures))
+    (c .misfit .ensures)
 
-misplaced : tie.Need-returns-2
-misplaced c =
-    let m = c .before .before in
-    let s = asked (m .before) in
-    by-sequence (taking s) (things (p s)) (long (m .before)) (may m ∙ not-true _ (c .before .if2 .taken)) (c .refuse2 .ensures)
+-- those of its content
+abbrev entry : tie.After-broken → tie.Start
+entry c = c .before .before .before .before .before .before .before .before .before
 
-lent : tie.Need-refusal-requires
-lent c κs =
-    let s = asked (c .before .before .before .before .before) in
-    (table-sized (s .args .t1) (s .good .0) .layers, s .pre .0 .held .entities)
+content : (c : tie.After-broken) → Content (r (entry c)) ofEntity (bs (entry c)) (c .broken .result)
+content c =
+    let s = entry c in
+    let lent = layers-lent (r s) (s .good .0) (s .pre) in
+    content-by (r s) ofEntity (bs s) (λ l v. refusal (entityContent l v)) (layers-taken (r s .table) (omega arith))
+    (c .before .before .before .read .ensures) (c .broken .ensures) refl
 
-broken : tie.Need-returns-3
+broken : tie.Need-returns-2
 broken c =
-    let r = c .before .before in
-    let e = r .before .before .before .before in
-    let s = asked (e .before .before) in
-    by-content (taking s) (things (p s)) (r .refusal .result) (long (e .before .before)) (placed e) (tested r) (c .before .if3 .taken) (c .refuse3 .ensures)
+    let b = c .before .before in
+    let i = b .before .before .before .before in
+    by-content (fit (i .before)) (i .if1 .left) (content b) (c .before .if2 .taken) (c .refuse2 .ensures)
 
-taken : tie.Need-returns-4
-unfolding grown
-taken c =
+room : tie.Need-with-entity-requires
+room c κs =
+    let i = c .before .before .before .before .before .before in
+    let s = i .before .before .before .before .before in
+    let few = few-entities (progressOf (r s)) (entityFrom (bs s)) (has-room (fit (i .before)) (i .if1 .left)) in
+    let n = counts s in
+    (s .pre .held, omega arith)
+
+value : tie.Need-returns-3
+value c =
     let w = c .before in
-    let r = w .before .before .before in
-    let e = r .before .before .before .before in
-    let s = asked (e .before .before) in
-    let t = s .args .t1 in
-    let v = entityFrom (bs s) in
-    by-none (taking s) (things (p s)) (long (e .before .before)) (placed e) (tested r ∙ w .before .before .if3 .left)
-    (rw (c .holding .ensures)
-    (reads _ (withEntity v (tableOf (t .table))) (t .floored) (suc (things (p s))) refl
-    (rw (r .before .before .before .read .ensures) at (w .with-entity .ensures)) refl (s .pre .0 .floored) (things-entity (p s) v)))
+    let b = w .before .before .before in
+    let i = b .before .before .before .before in
+    rw (c .holding .ensures)
+    (by-value (fit (i .before)) (i .if1 .left) (content b) (w .before .before .if2 .left) refl
+    (rw (b .before .before .before .read .ensures) at (w .with-entity .ensures)) refl (entry b .pre .floored))
 
 pub take-entity-spec : {M : Type 1} → statement M
 take-entity-spec =
     tie.close
-    (tie.spec
-    (λ c κs. search needs)
-    (λ c κs. search needs)
-    short
-    (λ c κs. search needs)
-    (λ c κs. search needs)
-    misplaced
-    (λ c κs. bytes-there (now (asked (c .before .before) .args .part)) 3 (long (c .before .before)))
-    lent
-    (λ c κs. search needs)
-    broken
-    (λ c κs. let e = c .before .before .before .before .before .before in (asked (e .before .before) .pre .0 .held, room e))
-    (λ c κs. search needs)
-    taken)
+    (tie.spec (λ c κs. search needs) (λ c κs. search needs) (λ c κs. search needs) (λ c κs. search needs)
+    (λ c. by-misfit (fit (c .before .before)) (c .before .if1 .taken) (c .refuse .ensures))
+    (λ c κs. bytes-there (now (c .before .before .before .before .before .args .part)) 3 (has-form (fit (c .before)) (c .if1 .left)))
+    (λ c κs. let s = c .before .before .before .before .before .before .before .before in layers-lent (r s) (s .good .0) (s .pre))
+    (λ c κs. search needs) broken room (λ c κs. search needs) value)

@@ -1,128 +1,82 @@
--- `Reader::take_row` meets its contract: each way is the first condition that the frame breaks, or none. Assumes nothing.
+-- `Reader::take_row` meets its contract: each way is what a row's line comes to. Assumes nothing.
 use borrow.Author.Needs.{needs}
-use borrow.Author.Tests.{not-true, not-false, ltb-true}
-use native.Mathlib.Omega.{arith}
-use mathlib.Core.Path.{_≡_, refl, sym, ap, _∙_}
-use mathlib.Core.Bool.{true, and-eq-true-iff}
-use mathlib.Core.List.{List}
-use Prim.Native.Nat.{ℕ, suc, _<_}
 use denote.Ref.{now}
-use lib.Dec.{eqb, ltb}
-use lib.ListN.{take}
+use mathlib.Core.Path.{refl}
+use mathlib.Core.List.{List}
+use native.Mathlib.Omega.{arith}
+use Prim.Native.Nat.{ℕ}
+use Rattle.base.specs.Checks.{refusal}
 use Rattle.hex.specs.Lines.{bytesOf}
-use Rattle.policy.specs.Model.{Row}
-use Rattle.policy.specs.Views.{withRow, tableOf}
-use Rattle.policy.proofs.Laws.Tables.{parents-taken}
-use Rattle.frames.specs.Checks.{refusal}
-use Rattle.frames.specs.Rules.{rowContent}
-use Rattle.frames.specs.Values.{rowLength, rowFrame}
-use Rattle.reader.specs.Frames.{frameOfKind}
-use Rattle.reader.specs.States.{Progress, mayRow, grown}
-use Rattle.reader.specs.Views.{progressOf, things}
-use Rattle.reader.proofs.Laws.States.{things-row}
-use Rattle.reader.proofs.Laws.Readers.{reads, table-sized, table-counted}
-use Rattle.reader.proofs.Laws.Takings.{Taking, taking-row, by-length, by-sequence, by-content, by-none}
+use Rattle.policy.specs.Wellformed.{widths}
+use Rattle.policy.proofs.Laws.Tables.{Counted, parents-taken}
+use Rattle.frames.specs.Rows.{rowFrame, rowContent}
+use Rattle.frames.specs.Kinds.{ofRow}
+use Rattle.frames.proofs.Laws.Rows.{few-rows}
+use Rattle.reader.specs.Views.{progressOf}
+use Rattle.reader.specs.declared.Reader.{Reader}
+use Rattle.reader.proofs.Laws.Readers.{table-counted, parents-lent}
+use Rattle.reader.proofs.Laws.Takings.{Fit, Content, fit-by, content-by, has-form, has-room, by-misfit, by-content, by-value}
 use Rattle.reader.proofs.Reader.take_row.Statement.{statement}
 use Rattle.reader.proofs.Reader.take_row.Tie as tie
 
--- what is asked: the progress, the bytes, and what is tested of them
 module _ (s : tie.Start) where
-  abbrev p : Progress
-  p = progressOf (s .args .t1)
+  abbrev r : Reader
+  r = s .args .t1
 
   abbrev bs : List ℕ
   bs = bytesOf (now (s .args .part))
 
-  abbrev taking : Taking p (frameOfKind 5 bs)
-  taking = taking-row p bs
+  counts : Counted (r .table)
+  counts = table-counted r (s .good .0) (s .pre)
 
-abbrev asked : tie.Else1 → tie.Start
-asked c = c .before .before .before
-
--- the frame has its length
-long : (c : tie.Else1) → rowLength (bs (asked c)) ≡ true
-long c = sym (c .before .is-long .ensures) ∙ not-false _ (c .if1 .left)
-
--- the test of the sequence that was made
-may : (c : tie.After-may-row) → mayRow (p (asked (c .before))) ≡ c .may-row .result
-may c =
-    let s = asked (c .before) in
-    let n = table-counted (s .args .t1) (s .good .0) (s .pre .0) in
-    rw (n .rows) (sym (c .may-row .ensures))
-
--- it can go on, and so there is room
-placed : (c : tie.Else2) → mayRow (p (asked (c .before .before))) ≡ true
-placed c = may (c .before) ∙ not-false _ (c .if2 .left)
-
-room : (c : tie.Else2) → asked (c .before .before) .args .t1 .table .rows < 64
-room c =
-    let m = c .before in
-    let r = asked (m .before) .args .t1 in
-    let h = sym (m .may-row .ensures) ∙ not-false _ (c .if2 .left) in
-    ltb-true _ _ (and-eq-true-iff (eqb (r .floored) 1) (ltb (r .table .rows) 64) .0 h .1)
-
--- the rules of its content that were tested
-tested : (c : tie.After-refusal) → refusal (taking (asked (c .before .before .before .before .before .before)) .content) ≡ c .refusal .result
-tested c =
-    let s = asked (c .before .before .before .before .before .before) in
-    let z = table-sized (s .args .t1) (s .good .0) in
-    let h = s .pre .0 .held .entities in
-    let t = s .args .t1 .table in
-    ap (λ (l : List ℕ). refusal (rowContent l (rowFrame (bs s)))) (parents-taken t (omega arith))
-    ∙ ap (λ (v : Row). refusal (rowContent (take (t .entities) (t .parents)) v)) (sym (c .before .before .before .read .ensures))
-    ∙ sym (c .refusal .ensures)
-
-short : tie.Need-returns
-short c =
+-- the tests of its form and its place
+fit : (c : tie.After-misfit) → let s = c .before .before .before .before in Fit (r s) ofRow (bs s) (c .misfit .result)
+fit c =
     let s = c .before .before .before .before in
-    by-length (taking s) (things (p s)) (sym (c .before .before .is-long .ensures) ∙ not-true _ (c .before .if1 .taken)) (c .refuse .ensures)
+    let p = c .before in
+    fit-by (r s) ofRow (bs s) (p .before .has-length .result) (p .has-place .result) (p .before .has-length .ensures)
+    (rw (counts s .rows) (p .has-place .ensures))
+    (c .misfit .ensures)
 
-misplaced : tie.Need-returns-2
-misplaced c =
-    let m = c .before .before in
-    let s = asked (m .before) in
-    by-sequence (taking s) (things (p s)) (long (m .before)) (may m ∙ not-true _ (c .before .if2 .taken)) (c .refuse2 .ensures)
+-- those of its content
+abbrev entry : tie.After-broken → tie.Start
+entry c = c .before .before .before .before .before .before .before .before .before
 
-lent : tie.Need-refusal-requires
-lent c κs =
-    let s = asked (c .before .before .before .before .before) in
-    (table-sized (s .args .t1) (s .good .0) .parents, s .pre .0 .held .entities)
+content : (c : tie.After-broken) → Content (r (entry c)) ofRow (bs (entry c)) (c .broken .result)
+content c =
+    let s = entry c in
+    let lent = parents-lent (r s) (s .good .0) (s .pre) in
+    content-by (r s) ofRow (bs s) (λ l v. refusal (rowContent l v)) (parents-taken (r s .table) (omega arith))
+    (c .before .before .before .read .ensures) (c .broken .ensures) refl
 
-broken : tie.Need-returns-3
+broken : tie.Need-returns-2
 broken c =
-    let r = c .before .before in
-    let e = r .before .before .before .before in
-    let s = asked (e .before .before) in
-    by-content (taking s) (things (p s)) (r .refusal .result) (long (e .before .before)) (placed e) (tested r) (c .before .if3 .taken) (c .refuse3 .ensures)
+    let b = c .before .before in
+    let i = b .before .before .before .before in
+    by-content (fit (i .before)) (i .if1 .left) (content b) (c .before .if2 .taken) (c .refuse2 .ensures)
 
-taken : tie.Need-returns-4
-unfolding grown
-taken c =
+room : tie.Need-with-row-requires
+room c κs =
+    let i = c .before .before .before .before .before .before in
+    let s = i .before .before .before .before .before in
+    let few = few-rows 5 (progressOf (r s)) (rowFrame widths (bs s)) (has-room (fit (i .before)) (i .if1 .left)) in
+    let n = counts s in
+    (s .pre .held, omega arith)
+
+value : tie.Need-returns-3
+value c =
     let w = c .before in
-    let r = w .before .before .before in
-    let e = r .before .before .before .before in
-    let s = asked (e .before .before) in
-    let t = s .args .t1 in
-    let v = rowFrame (bs s) in
-    by-none (taking s) (things (p s)) (long (e .before .before)) (placed e) (tested r ∙ w .before .before .if3 .left)
-    (rw (c .holding .ensures)
-    (reads _ (withRow v (tableOf (t .table))) (t .floored) (suc (things (p s))) refl
-    (rw (r .before .before .before .read .ensures) at (w .with-row .ensures)) refl (s .pre .0 .floored) (things-row (p s) v)))
+    let b = w .before .before .before in
+    let i = b .before .before .before .before in
+    rw (c .holding .ensures)
+    (by-value (fit (i .before)) (i .if1 .left) (content b) (w .before .before .if2 .left) refl
+    (rw (b .before .before .before .read .ensures) at (w .with-row .ensures)) refl (entry b .pre .floored))
 
 pub take-row-spec : {M : Type 1} → statement M
 take-row-spec =
     tie.close
-    (tie.spec
-    (λ c κs. search needs)
-    (λ c κs. search needs)
-    short
-    (λ c κs. search needs)
-    (λ c κs. search needs)
-    misplaced
-    (λ c κs. long (c .before .before))
-    lent
-    (λ c κs. search needs)
-    broken
-    (λ c κs. let e = c .before .before .before .before .before .before in (asked (e .before .before) .pre .0 .held, room e))
-    (λ c κs. search needs)
-    taken)
+    (tie.spec (λ c κs. search needs) (λ c κs. search needs) (λ c κs. search needs) (λ c κs. search needs)
+    (λ c. by-misfit (fit (c .before .before)) (c .before .if1 .taken) (c .refuse .ensures))
+    (λ c κs. (has-form (fit (c .before)) (c .if1 .left), search needs))
+    (λ c κs. let s = c .before .before .before .before .before .before .before .before in parents-lent (r s) (s .good .0) (s .pre))
+    (λ c κs. search needs) broken room (λ c κs. search needs) value)

@@ -1,6 +1,6 @@
 -- `equals` meets its contract: it is the test of each coefficient, and of no further one. Assumes nothing.
 use mathlib.Core.Bool.{and-assoc, and-true}
-use Rattle.relations.specs.Lists.{same}
+use Rattle.base.specs.Lists.{same}
 use Rattle.relations.proofs.coefficients.equals.Statement.{statement}
 use Rattle.relations.proofs.coefficients.equals.Tie as tie
 

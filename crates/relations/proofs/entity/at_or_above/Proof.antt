@@ -5,6 +5,7 @@ use native.Mathlib.Omega.{arith}
 use Prim.Native.Nat.{_<_}
 use mathlib.Core.Path.{_≡_, sym, _∙_}
 use denote.Ref.{now}
+use Rattle.policy.specs.Limits.{mostEntities}
 use Rattle.policy.specs.Views.{parentIn}
 use Rattle.relations.specs.Entities.{atOrAbove}
 use Rattle.relations.proofs.Laws.Entities.{test-here, test-top, test-next}
@@ -13,7 +14,7 @@ use Rattle.relations.proofs.entity.at_or_above.Statement.{statement}
 use Rattle.relations.proofs.entity.at_or_above.Tie as tie
 
 abbrev I : tie.InvT-loop
-I parents e f at₀ at = (at < 128) × (atOrAbove (parentIn parents) e f ≡ atOrAbove (parentIn parents) e at)
+I parents e f at₀ at = (at < mostEntities) × (atOrAbove (parentIn parents) e f ≡ atOrAbove (parentIn parents) e at)
 
 abbrev μ : tie.MeasureT-loop
 μ parents e f at₀ at = at

@@ -5,6 +5,7 @@ use native.Mathlib.Omega.{arith}
 use Prim.Native.Nat.{_<_}
 use mathlib.Core.Path.{_≡_, sym, _∙_}
 use denote.Ref.{now}
+use Rattle.policy.specs.Limits.{mostEntities}
 use Rattle.policy.specs.Views.{parentIn}
 use Rattle.relations.specs.Entities.{rootOf}
 use Rattle.relations.proofs.Laws.Entities.{root-top, root-next}
@@ -13,7 +14,7 @@ use Rattle.relations.proofs.entity.root.Statement.{statement}
 use Rattle.relations.proofs.entity.root.Tie as tie
 
 abbrev I : tie.InvT-loop
-I parents e at₀ at = (at < 128) × (rootOf (parentIn parents) e ≡ rootOf (parentIn parents) at)
+I parents e at₀ at = (at < mostEntities) × (rootOf (parentIn parents) e ≡ rootOf (parentIn parents) at)
 
 abbrev μ : tie.MeasureT-loop
 μ parents e at₀ at = at

@@ -1,7 +1,7 @@
 -- `same_gateways` meets its contract: lists of different lengths are not the same, and the first of a list are as many as they are. Assumes nothing.
 use borrow.Author.Needs.{needs}
 use mathlib.Core.Path.{sym, _∙_}
-use Rattle.relations.proofs.Laws.Lists.{same-lengths, take-own}
+use Rattle.base.proofs.Laws.Members.{same-lengths, take-own}
 use Rattle.relations.proofs.group.same_gateways.Statement.{statement}
 use Rattle.relations.proofs.group.same_gateways.Tie as tie
 

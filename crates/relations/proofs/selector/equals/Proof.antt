@@ -1,21 +1,15 @@
--- `equals` meets its contract: it is the test of each field, and of no further one. Assumes nothing.
+-- `equals` meets its contract: selectors that contain each other are the same. Assumes nothing.
 use borrow.Author.Needs.{needs}
-use Rattle.relations.specs.Selectors.{sameSelector}
+use mathlib.Core.Path.{sym}
+use Rattle.policy.specs.Views.{selectorOf}
+use Rattle.relations.proofs.Laws.Selectors.{same-contains}
 use Rattle.relations.proofs.selector.equals.Statement.{statement}
 use Rattle.relations.proofs.selector.equals.Tie as tie
 
 returns : tie.Need-returns
-unfolding sameSelector
 returns c =
-    let f = c .before in
-    rw (
-      ← f .before .before .before .before .range-equals .ensures,
-      ← f .before .before .before .range-equals2 .ensures,
-      ← f .before .before .range-equals3 .ensures,
-      ← f .before .range-equals4 .ensures,
-      ← f .range-equals5 .ensures,
-    )
-    (c .all .ensures)
+    let s = c .before .before .args in
+    rw (c .before .contains .ensures, c .contains2 .ensures) (sym (same-contains (selectorOf (s .a)) (selectorOf (s .b))))
 
 pub equals-spec : {M : Type 1} → statement M
-equals-spec = tie.close (tie.spec (λ c κs. search needs) (λ c κs. search needs) (λ c κs. search needs) (λ c κs. search needs) (λ c κs. search needs) (λ c κs. search needs) returns)
+equals-spec = tie.close (tie.spec (λ c κs. search needs) (λ c κs. search needs) returns)

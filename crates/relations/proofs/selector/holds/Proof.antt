@@ -1,21 +1,20 @@
--- `holds` meets its contract: it is the test of each field, and of no further one. Assumes nothing.
+-- `holds` meets its contract: no low is above the packet, and the packet above no high. Assumes nothing.
 use borrow.Author.Needs.{needs}
-use Rattle.relations.specs.Selectors.{holds}
+use mathlib.Core.Path.{refl, sym}
+use Rattle.policy.specs.Views.{packetOf}
+use Rattle.relations.proofs.Laws.Selectors.{noneAbove-of, holds-ends}
 use Rattle.relations.proofs.selector.holds.Statement.{statement}
 use Rattle.relations.proofs.selector.holds.Tie as tie
 
 returns : tie.Need-returns
-unfolding holds
 returns c =
-    let f = c .before in
+    let l = c .before .before in
+    let p = packetOf (l .before .before .args .p) in
     rw (
-      ← f .before .before .before .before .range-holds .ensures,
-      ← f .before .before .before .range-holds2 .ensures,
-      ← f .before .before .range-holds3 .ensures,
-      ← f .before .range-holds4 .ensures,
-      ← f .range-holds5 .ensures,
+      noneAbove-of {y = p} (l .none-above .ensures) (l .before .lowest .ensures) refl,
+      noneAbove-of {x = p} (c .none-above2 .ensures) refl (c .before .highest .ensures),
     )
-    (c .all .ensures)
+    (sym (holds-ends _ _))
 
 pub holds-spec : {M : Type 1} → statement M
-holds-spec = tie.close (tie.spec (λ c κs. search needs) (λ c κs. search needs) (λ c κs. search needs) (λ c κs. search needs) (λ c κs. search needs) (λ c κs. search needs) returns)
+holds-spec = tie.close (tie.spec (λ c κs. search needs) (λ c κs. search needs) (λ c κs. search needs) (λ c κs. search needs) returns)

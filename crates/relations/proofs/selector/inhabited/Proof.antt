@@ -1,21 +1,14 @@
--- `inhabited` meets its contract: it is the test of each field, and of no further one. Assumes nothing.
+-- `inhabited` meets its contract: no low is above its high. Assumes nothing.
 use borrow.Author.Needs.{needs}
-use Rattle.relations.specs.Selectors.{inhabited}
+use mathlib.Core.Path.{sym, _∙_}
+use Rattle.relations.proofs.Laws.Selectors.{noneAbove-of, inhabited-ends}
 use Rattle.relations.proofs.selector.inhabited.Statement.{statement}
 use Rattle.relations.proofs.selector.inhabited.Tie as tie
 
 returns : tie.Need-returns
-unfolding inhabited
 returns c =
-    let f = c .before in
-    rw (
-      ← f .before .before .before .before .range-inhabited .ensures,
-      ← f .before .before .before .range-inhabited2 .ensures,
-      ← f .before .before .range-inhabited3 .ensures,
-      ← f .before .range-inhabited4 .ensures,
-      ← f .range-inhabited5 .ensures,
-    )
-    (c .all .ensures)
+    noneAbove-of (c .none-above .ensures) (c .before .before .lowest .ensures) (c .before .highest .ensures)
+    ∙ sym (inhabited-ends _)
 
 pub inhabited-spec : {M : Type 1} → statement M
-inhabited-spec = tie.close (tie.spec (λ c κs. search needs) (λ c κs. search needs) (λ c κs. search needs) (λ c κs. search needs) (λ c κs. search needs) (λ c κs. search needs) returns)
+inhabited-spec = tie.close (tie.spec (λ c κs. search needs) (λ c κs. search needs) (λ c κs. search needs) returns)

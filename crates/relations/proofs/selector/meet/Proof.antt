@@ -8,11 +8,11 @@ returns : tie.Need-returns
 unfolding meet
 returns c =
     rw (
-      c .range-meet5 .ensures,
-      c .before .range-meet4 .ensures,
-      c .before .before .range-meet3 .ensures,
-      c .before .before .before .range-meet2 .ensures,
-      c .before .before .before .before .range-meet .ensures,
+      c .meet5 .ensures,
+      c .before .meet4 .ensures,
+      c .before .before .meet3 .ensures,
+      c .before .before .before .meet2 .ensures,
+      c .before .before .before .before .meet .ensures,
     )
 
 pub meet-spec : {M : Type 1} → statement M

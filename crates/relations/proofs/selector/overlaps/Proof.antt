@@ -1,21 +1,18 @@
--- `overlaps` meets its contract: it is the test of each field, and of no further one. Assumes nothing.
+-- `overlaps` meets its contract: no low of either is above the other's high. Assumes nothing.
 use borrow.Author.Needs.{needs}
-use Rattle.relations.specs.Selectors.{overlaps}
+use mathlib.Core.Path.{sym}
+use Rattle.relations.proofs.Laws.Selectors.{noneAbove-of, overlaps-ends}
 use Rattle.relations.proofs.selector.overlaps.Statement.{statement}
 use Rattle.relations.proofs.selector.overlaps.Tie as tie
 
 returns : tie.Need-returns
-unfolding overlaps
 returns c =
-    let f = c .before in
+    let l = c .before .before .before in
     rw (
-      ← f .before .before .before .before .range-overlaps .ensures,
-      ← f .before .before .before .range-overlaps2 .ensures,
-      ← f .before .before .range-overlaps3 .ensures,
-      ← f .before .range-overlaps4 .ensures,
-      ← f .range-overlaps5 .ensures,
+      noneAbove-of (l .none-above .ensures) (l .before .before .lowest .ensures) (l .before .highest .ensures),
+      noneAbove-of (c .none-above2 .ensures) (c .before .before .lowest2 .ensures) (c .before .highest2 .ensures),
     )
-    (c .all .ensures)
+    (sym (overlaps-ends _ _))
 
 pub overlaps-spec : {M : Type 1} → statement M
 overlaps-spec = tie.close (tie.spec (λ c κs. search needs) (λ c κs. search needs) (λ c κs. search needs) (λ c κs. search needs) (λ c κs. search needs) (λ c κs. search needs) returns)

@@ -3,11 +3,12 @@ use borrow.Author.Needs.{needs}
 use native.Mathlib.Omega.{arith}
 use mathlib.Core.Path.{_≡_}
 use lib.ListN.{length, length-take}
+use Rattle.policy.specs.Limits.{mostGateways}
 use Rattle.policy.proofs.row.Row.gateway_count.Statement.{statement}
 use Rattle.policy.proofs.row.Row.gateway_count.Tie as tie
 
 -- the array of a struct that is passed is as long as its type says
-eight : (c : tie.Start) → length (c .args .self .gateways) ≡ 8
+eight : (c : tie.Start) → length (c .args .self .gateways) ≡ mostGateways
 eight c = search needs
 
 few : tie.Need-returns

@@ -7,7 +7,7 @@ use lib.ListN.{set}
 use lib.Seq.{getD-set-other}
 use Rattle.policy.specs.Model.{noParent}
 use Rattle.policy.specs.Views.{entityOf, parentIn}
-use Rattle.policy.proofs.Laws.Runs.{entities-grown}
+use Rattle.policy.proofs.Laws.Lists.{entities-grown}
 use Rattle.policy.proofs.Laws.Tables.{sized}
 use Rattle.policy.proofs.table.Table.with_entity.Statement.{statement}
 use Rattle.policy.proofs.table.Table.with_entity.Tie as tie

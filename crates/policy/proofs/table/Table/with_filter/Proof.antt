@@ -3,8 +3,9 @@ use mathlib.Core.Path.{refl}
 use Prim.Native.Nat.{_+_}
 use native.Mathlib.Omega.{arith}
 use borrow.Author.Needs.{needs}
+use Rattle.policy.specs.Limits.{mostRows}
 use Rattle.policy.specs.Views.{filterOf}
-use Rattle.policy.proofs.Laws.Runs.{filters-grown, rows-kept}
+use Rattle.policy.proofs.Laws.Lists.{filters-grown, rows-kept}
 use Rattle.policy.proofs.Laws.Tables.{sized}
 use Rattle.policy.proofs.table.Table.with_filter.Statement.{statement}
 use Rattle.policy.proofs.table.Table.with_filter.Tie as tie
@@ -19,7 +20,7 @@ returns c =
           rw (
             c .put-selector .ensures,
             filters-grown (t .«filter_roots») (t .bounds) (t .filters) f (omega arith) refl (omega arith),
-            rows-kept (t .bounds) (64 + t .filters) (f .selector) refl (t .heads) (t .rows) (omega arith),
+            rows-kept (t .bounds) (mostRows + t .filters) (f .selector) refl (t .heads) (t .rows) (omega arith),
           );
       held = search (c .before .before .pre .0 .unused, needs);
     }

@@ -5,17 +5,17 @@ use Prim.Native.Nat.{ℕ}
 use native.Mathlib.Omega.{arith}
 use borrow.Author.Needs.{needs}
 use lib.ListN.{getD}
-use Rattle.policy.specs.Lists.{tabulate}
+use Rattle.base.specs.Lists.{tabulate}
+use Rattle.policy.specs.Limits.{mostGateways}
 use Rattle.policy.specs.Views.{selectorOf}
 use Rattle.policy.specs.declared.row.Row.{Row}
-use Rattle.policy.proofs.Laws.Lists.{tabulate-counted}
-use Rattle.policy.proofs.Laws.Runs.{filters-kept}
-use Rattle.policy.proofs.Laws.Heads.{rows-grown}
+use Rattle.base.proofs.Laws.Lists.{tabulate-counted}
+use Rattle.policy.proofs.Laws.Lists.{filters-kept, rows-grown}
 use Rattle.policy.proofs.Laws.Tables.{sized, eight-gateways}
 use Rattle.policy.proofs.table.Table.with_row.Statement.{statement}
 use Rattle.policy.proofs.table.Table.with_row.Tie as tie
 
--- The 16 bytes that are written for a row.
+-- The bytes that are written for a row.
 abbrev headOf : Row → List ℕ
 headOf r =
     r .holder
@@ -26,7 +26,7 @@ headOf r =
     ∷ r .coefficients .payload
     ∷ r .coefficients .confidentiality
     ∷ r .count
-    ∷ tabulate (λ k. getD (r .gateways) k 0) 8
+    ∷ tabulate (λ k. getD (r .gateways) k 0) mostGateways
 
 returns : tie.Need-returns
 returns c =
@@ -42,7 +42,7 @@ returns c =
             c .before .before .put-head .ensures,
             filters-kept (t .bounds) (t .rows) s refl (t .«filter_roots») (t .filters) (omega arith),
             rows-grown (t .heads) (t .bounds) (t .rows) (headOf r) s refl (omega arith) refl (omega arith),
-            tabulate-counted (λ k. getD (r .gateways) k 0) 8 (r .gateways) 0 (eight-gateways r (p .good .1 .0)) (λ k b. refl),
+            tabulate-counted (λ k. getD (r .gateways) k 0) mostGateways (r .gateways) 0 (eight-gateways r (p .good .1 .0)) (λ k b. refl),
           );
       held = search (p .pre .0 .unused, needs);
     }
@@ -51,15 +51,6 @@ pub with-row-spec : {M : Type 1} → statement M
 with-row-spec =
     tie.close
     (tie.spec
-    (λ c. search needs)
-    (λ c. search needs)
-    (λ c. search needs)
-    (λ c. search needs)
-    (λ c. search needs)
-    (λ c. search needs)
-    (λ c. search needs)
-    (λ c. search needs)
-    (λ c κs. search needs)
-    (λ c κs. search needs)
-    (λ c. search needs)
+    (λ c. search needs) (λ c. search needs) (λ c. search needs) (λ c. search needs) (λ c. search needs) (λ c. search needs)
+    (λ c. search needs) (λ c. search needs) (λ c κs. search needs) (λ c κs. search needs) (λ c. search needs)
     returns)

@@ -1,0 +1,41 @@
+-- Laws of the caller's output: too short, and with room; a result that is stored from the start.
+-- Assumes nothing.
+use Prim.Native.Nat.{ℕ, _+_, _≤_, _<_}
+use mathlib.Core.Path.{_≡_, ap, _∙_}
+use mathlib.Core.Bool.{true, false}
+use mathlib.Core.List.{List, _++_}
+use native.Mathlib.Omega.{arith}
+use borrow.Author.Tests.{le-leb, lt-leb}
+use lib.ListN.{length, drop, take}
+use lib.Seq.{sets, sets-eq, take-length}
+use Rattle.base.specs.Outputs.{fits, written}
+
+module _ (result out : List ℕ) where
+  -- ---- too short
+
+  pub fits-not : length out < length result → fits result out ≡ false
+  fits-not h = lt-leb (length result) (length out) h
+
+  pub written-not : length out < length result → out ≡ written result out
+  written-not h = rw (fits-not h)
+
+  -- ---- room for the result
+
+  module _ (h : length result ≤ length out) where
+    pub fits-all : fits result out ≡ true
+    fits-all = le-leb (length result) (length out) h
+
+    pub written-all : result ++ drop (length result) out ≡ written result out
+    written-all = rw fits-all
+
+    pub written-stored : sets out 0 result ≡ written result out
+    written-stored =
+        let e : 0 + length result ≡ length result = omega arith in
+        sets-eq result out 0 (omega arith) ∙ ap (λ (k : ℕ). result ++ drop k out) e ∙ written-all
+
+    -- copied from a list of its bytes
+    pub written-copied : (from : List ℕ) → from ≡ result → take (length from) from ++ drop (length from) out ≡ written result out
+    written-copied from e =
+        ap (λ (l : List ℕ). take (length l) l ++ drop (length l) out) e
+        ∙ ap (λ (l : List ℕ). l ++ drop (length result) out) (take-length result)
+        ∙ written-all

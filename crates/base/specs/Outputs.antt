@@ -1,0 +1,17 @@
+-- Document 01 on the caller's output: 8, "output shorter than the result"; "the rest of the buffer is unchanged"; "a refusal writes to no
+-- output".
+-- Assumes nothing.
+use Prim.Native.Nat.{ℕ}
+use mathlib.Core.Bool.{Bool}
+use mathlib.Core.List.{List, _++_}
+use lib.Dec.{leb}
+use lib.ListN.{length, drop}
+use Rattle.base.specs.Truths.{pick}
+
+-- The output has room for the result.
+abbrev pub fits : List ℕ → List ℕ → Bool
+fits result out = leb (length result) (length out)
+
+-- The output with the result at its start and the rest unchanged; as it was, if it is too short.
+abbrev pub written : List ℕ → List ℕ → List ℕ
+written result out = pick (fits result out) (result ++ drop (length result) out) out

@@ -1,0 +1,10 @@
+// What is about no document.
+ghost use mathlib.Core.Path.{_≡_};
+ghost use Rattle.base.specs.Truths.{bit as bitOf};
+
+// 1 if b holds, else 0.
+pub fn bit(b: bool) -> usize
+    ensures { λ r. ⌜ r ≡ bitOf b ⌝ }
+{
+    if b { 1 } else { 0 }
+}

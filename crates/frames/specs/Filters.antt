@@ -1,0 +1,44 @@
+-- Document 01, "The table text": filters. `parents` are those of the entities read so far, by number.
+-- Assumes nothing.
+use Prim.Native.Nat.{ℕ, _+_}
+use mathlib.Core.Bool.{Bool, _&&_}
+use mathlib.Core.List.{List, [], _∷_}
+use lib.Dec.{eqb, ltb}
+use lib.ListN.{length, getD}
+use Rattle.base.specs.Checks.{Check, or-else}
+use Rattle.policy.specs.Limits.{mostFilters}
+use Rattle.policy.specs.Model.{Filter, parentsOf}
+use Rattle.policy.specs.Views.{withFilter}
+use Rattle.policy.specs.Wellformed.{widths}
+use Rattle.relations.specs.Selectors.{inhabited}
+use Rattle.frames.specs.Refusals.{badNumber, emptyRange}
+use Rattle.frames.specs.Progress.{FrameKind}
+use Rattle.frames.specs.Parts.{selectorFrom, boxBytes}
+use Rattle.frames.specs.Numbers.{isRoot}
+
+-- "04 filter, 28 bytes: kind, root, box."
+abbrev pub filterLength : List ℕ → Bool
+filterLength bs = eqb (length bs) (1 + boxBytes widths)
+
+abbrev pub filterFrom : List ℕ → Filter
+filterFrom bs = record { root = getD bs 0 0; selector = selectorFrom 1 widths bs }
+
+-- "0 to 32 filters", after the floor and before the rows.
+abbrev pub filterPlace : (floored rows filters : ℕ) → Bool
+filterPlace floored rows filters = eqb floored 1 && (eqb rows 0 && ltb filters mostFilters)
+
+-- "filter root .. isn't a root"; "a low above its high". A box in which some packet is has no low above its high.
+abbrev pub filterContent : List ℕ → Filter → List Check
+filterContent parents f =
+    or-else (isRoot parents (f .root)) badNumber ∷ or-else (inhabited (f .selector)) emptyRange ∷ []
+
+abbrev pub filterKind : FrameKind Filter
+filterKind =
+    record {
+      byte = 4;
+      long = filterLength;
+      value = filterFrom;
+      placed = λ p f. filterPlace (p .floored) (length (p .table .rows)) (length (p .table .filters));
+      content = λ t f. filterContent (parentsOf t) f;
+      grown = λ f p. record { table = withFilter f (p .table); floored = p .floored };
+    }

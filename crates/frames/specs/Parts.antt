@@ -1,0 +1,33 @@
+-- Document 01, "The table text": what several kinds of frames have, a byte at a place, coefficients and a box. A box is of any widths.
+-- Assumes nothing.
+use Prim.Native.Nat.{ℕ, _+_, _*_}
+use mathlib.Core.List.{List, [], _∷_}
+use lib.ListN.{getD}
+use Rattle.hex.specs.Numbers.{field}
+use Rattle.policy.specs.Model.{Coefficients, Range, Selector}
+
+-- Three coefficients, a byte each, from place `at` on.
+abbrev pub coefficientsFrom : ℕ → List ℕ → Coefficients
+coefficientsFrom at bs = getD bs at 0 ∷ getD bs (at + 1) 0 ∷ getD bs (at + 2) 0 ∷ []
+
+-- The low and the high of a field of this width, from place `at` on.
+unfoldable pub rangeFrom : ℕ → ℕ → List ℕ → Range
+rangeFrom at width bs = record { low = field at width bs; high = field (at + width) width bs }
+
+-- The box whose fields have these widths, from place `at` on.
+abbrev pub selectorFrom : ℕ → List ℕ → List ℕ → Selector
+selectorFrom at [] bs = []
+selectorFrom at (w ∷ ws) bs = rangeFrom at w bs ∷ selectorFrom (at + 2 * w) ws bs
+
+-- The widest number that the code reads from a line, in bytes.
+abbrev pub mostWidth : ℕ
+mostWidth = 8
+
+-- How many bytes such a box has: low and high of each field.
+abbrev pub boxBytes : List ℕ → ℕ
+boxBytes [] = 0
+boxBytes (w ∷ ws) = 2 * w + boxBytes ws
+
+-- The widths of a box with addresses of so many bytes: source and destination address, source and destination port, protocol.
+abbrev pub boxOf : ℕ → List ℕ
+boxOf address = address ∷ address ∷ 2 ∷ 2 ∷ 1 ∷ []

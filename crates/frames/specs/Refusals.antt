@@ -1,0 +1,43 @@
+-- Document 01's table of returns: the numbers of refusals, by name. The code's are in src/refusals.rt.
+-- Assumes nothing.
+use Prim.Native.Nat.{ℕ}
+
+-- "empty line, other character, odd digits, last line without line feed"
+abbrev pub noLine : ℕ
+noLine = 1
+
+-- "unknown kind, length not the kind's, n above 8"
+abbrev pub wrongForm : ℕ
+wrongForm = 2
+
+-- "the sequence can't go on so; a text ending before the floor"
+abbrev pub outOfSequence : ℕ
+outOfSequence = 3
+
+-- "entity breaks its rules"
+abbrev pub badEntity : ℕ
+badEntity = 4
+
+-- "holder, filter root or gateway isn't a root; s or d no entity; t above 6"
+abbrev pub badNumber : ℕ
+badNumber = 5
+
+-- "a low above its high"
+abbrev pub emptyRange : ℕ
+emptyRange = 6
+
+-- "NULL with a coefficient above 0"
+abbrev pub protectedNull : ℕ
+protectedNull = 7
+
+-- "output shorter than the result"
+abbrev pub shortOutput : ℕ
+shortOutput = 8
+
+-- "no such row"
+abbrev pub noSuchRow : ℕ
+noSuchRow = 9
+
+-- "a or b no entity"
+abbrev pub noSuchEntity : ℕ
+noSuchEntity = 10

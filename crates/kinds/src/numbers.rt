@@ -1,0 +1,48 @@
+// The numbers of the kinds: each kind's place in the list of specs/Kinds.antt.
+pub const INTERNAL_LOOP: usize = 1;
+
+pub const OUT_OF_PLACE: usize = 2;
+
+pub const NON_ENFORCEABLE: usize = 3;
+
+pub const INADEQUATE: usize = 4;
+
+pub const SHADOWING: usize = 5;
+
+pub const REDUNDANCY: usize = 6;
+
+pub const EXCEPTION: usize = 7;
+
+pub const CORRELATION: usize = 8;
+
+pub const INCLUSION: usize = 9;
+
+pub const AFFINITY: usize = 10;
+
+pub const CONTRADICTION: usize = 11;
+
+pub const SUPERFLUOUS: usize = 12;
+
+pub const SKEWED: usize = 13;
+
+pub const FILTERED: usize = 14;
+
+pub const LAYER_TWO: usize = 15;
+
+pub const ASYMMETRIC: usize = 16;
+
+pub const CYCLIC: usize = 17;
+
+pub const MONITORABLE: usize = 18;
+
+pub const ALTERNATIVE_PATH: usize = 19;
+
+pub const DEAD: usize = 20;
+
+// How many kinds there are, which is the last one's number.
+pub const KINDS: usize = DEAD;
+
+pub const LAST_KIND: u8 = KINDS as u8;
+
+// The second number of an entry of one row: FF.
+pub const NO_SECOND: u8 = 255;
