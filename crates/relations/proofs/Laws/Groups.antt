@@ -1,6 +1,6 @@
--- Laws of groups, probes and winners. The tests are true exactly when their meanings hold. A group is the same whichever row
--- names it. The winner is the first matching row; a row that wins wins the probe between its own ends; a row is dead exactly
--- when earlier rows hide each of its packets.
+-- Laws of groups, probes and winners. The test of a group is those of holder, technology and gateways. The tests are true exactly when
+-- their meanings hold. A group is the same whichever row names it. The winner is the first matching row; a row that wins wins the probe
+-- between its own ends; a row is dead exactly when earlier rows hide each of its packets.
 -- Assumes nothing.
 use mathlib.Core.Path.{_≡_, refl, sym, ap, _∙_}
 use mathlib.Core.Logic.{_↔_, _⊎_, inl, inr}
@@ -27,6 +27,11 @@ use Rattle.relations.proofs.Laws.Entities.{above-self, above-trans, atO
 use Rattle.relations.proofs.Laws.Selectors.{holds-decides}
 
 -- ---- groups
+
+pub sameGroup-tests : (r q : Row)
+    → sameGroup r q ≡ (eqb (r .holder) (q .holder) && (eqb (r .technology) (q .technology) && same (r .gateways) (q .gateways)))
+unfolding sameGroup
+sameGroup-tests r q = refl
 
 pub sameGroup-decides : (r q : Row) → Decides (sameGroup r q) (SameGroup r q)
 unfolding sameGroup

@@ -3,7 +3,7 @@ use borrow.Author.Needs.{needs}
 use mathlib.Core.Path.{_≡_, refl}
 use mathlib.Core.Bool.{not, and-true}
 use lib.Dec.{eqb}
-use Rattle.relations.specs.Groups.{sameGroup}
+use Rattle.relations.proofs.Laws.Groups.{sameGroup-tests}
 use Rattle.kinds.specs.declared.pair.Pair.{Pair}
 use Rattle.kinds.proofs.pair.pair_of.Statement.{statement}
 use Rattle.kinds.proofs.pair.pair_of.Tie as tie
@@ -12,7 +12,6 @@ alike : (p q : Pair) → p .holder ≡ q .holder → p .earlier ≡ q .earlier �
 alike p q e1 e2 e3 e4 e5 e6 e7 e8 e9 e10 e11 e12 e13 e14 e15 e16 e17 e18 e19 e20 e21 = λ i. record { holder = e1 i; earlier = e2 i; group = e3 i; gateways = e4 i; technology = e5 i; null = e6 i; «other_null» = e7 i; dominates = e8 i; dominated = e9 i; encloses = e10 i; enclosed = e11 i; same = e12 i; stronger = e13 i; weaker = e14 i; meets = e15 i; crossing = e16 i; «source_inside» = e17 i; «destination_inside» = e18 i; through = e19 i; back = e20 i; confidential = e21 i }
 
 returns : tie.Need-returns
-unfolding sameGroup
 returns c =
     let inside2 = c .before .before .before .before .before .before in
     let inside = inside2 .before in
@@ -28,7 +27,7 @@ returns c =
     alike _ _
     refl
     refl
-    (rw (gateways .same-gateways .ensures))
+    (rw (sameGroup-tests, gateways .same-gateways .ensures))
     (gateways .same-gateways .ensures)
     refl
     refl
