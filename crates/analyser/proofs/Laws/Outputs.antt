@@ -3,6 +3,7 @@
 --   call-accepted: what such a call does, of a text that is accepted, where the result is written if it fits
 --   call-short, call-whole: its answer and output, for an output too short, and for one with room
 --   list-told, list-refused, strike-told, strike-refused: why List and Strike answer as they do
+--   list-wrote, strike-wrote, strike-left: what they leave in the output, where they tell a number, and where they refuse
 --   count-fits: as many entries as are counted have room
 -- Assumes nothing.
 use Prim.Native.Nat.{ℕ, _*_, _≤_, _<_}
@@ -18,7 +19,7 @@ use Rattle.base.specs.Outputs.{fits, written}
 use Rattle.base.specs.Checks.{Check}
 use Rattle.base.specs.Answers.{Answer, returned, refusedBy, told, wrote}
 use Rattle.base.proofs.Laws.Outputs.{fits-not, fits-all}
-use Rattle.base.proofs.Laws.Answers.{Kept, Broken, Told, told-why, Why, refused-why, told-room, wrote-room}
+use Rattle.base.proofs.Laws.Answers.{Kept, Broken, Told, told-why, Why, refused-why, told-room, wrote-room, wrote-refused}
 use Rattle.policy.specs.Model.{Table}
 use Rattle.frames.specs.Refusals.{shortOutput}
 use Rattle.reader.specs.States.{parse}
@@ -26,7 +27,7 @@ use Rattle.kinds.specs.Entries.{entries}
 use Rattle.listing.specs.Bytes.{bytes, entryBytes}
 use Rattle.listing.proofs.Laws.Puts.{length-bytes}
 use Rattle.striking.specs.Texts.{struckText}
-use Rattle.analyser.specs.Calls.{hasRoom, writing, listOf, strikeOf}
+use Rattle.analyser.specs.Calls.{hasRoom, writing, listOf, listWritten, strikeOf, strikeWritten}
 use Rattle.analyser.specs.Views.{listAnswer}
 use Rattle.analyser.specs.declared.Listed.{Listed}
 use Rattle.analyser.specs.declared.Listed.the-variants.{Count}
@@ -99,6 +100,20 @@ module _ (text out : List ℕ) where
   pub strike-refused : (number line : ℕ) → strikeOf text out ≡ refusedBy number line → Why strikeConditions (parse text) number line
   unfolding strikeOf
   strike-refused number line e = refused-why strikeConditions (struckText text) length (parse text) number line e
+
+  pub list-wrote : {n : ℕ} (w : Told listConditions entries length (parse text) n)
+      → listWritten text out ≡ bytes (entries (w .of)) ++ drop (length (bytes (entries (w .of)))) out
+  unfolding listWritten
+  list-wrote w = call-whole bytes length entries out (parse text) (w .of) (w .read) (room (bytes (entries (w .of))) out (w .keeps)) .1
+
+  pub strike-wrote : {n : ℕ} (w : Told strikeConditions (struckText text) length (parse text) n)
+      → strikeWritten text out ≡ struckText text (w .of) ++ drop (length (struckText text (w .of))) out
+  unfolding strikeWritten
+  strike-wrote w = call-whole (λ l. l) length (struckText text) out (parse text) (w .of) (w .read) (room (struckText text (w .of)) out (w .keeps)) .1
+
+  pub strike-left : (number line : ℕ) → strikeOf text out ≡ refusedBy number line → strikeWritten text out ≡ out
+  unfolding strikeOf strikeWritten
+  strike-left number line e = wrote-refused length (λ l. l) out (writing (λ l. l) (struckText text) out (parse text)) number line e
 
   -- As many entries as are counted have room.
   pub count-fits : (r : Listed) (n : ℕ) → listAnswer r ≡ listOf text out → r ≡ Count n → entryBytes * n ≤ length out

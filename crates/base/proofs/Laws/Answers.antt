@@ -3,6 +3,7 @@
 --   Broken, given-broken: one is broken, those before it hold, and its number is the refusal's
 --   Told, told-why, refused-why: why a call returns, and why it refuses
 --   told-room, wrote-room: a call whose one condition is that its result has room in the output
+--   wrote-refused: a refusal writes nothing
 --   case-of: an enum that stands for an answer
 -- Assumes nothing.
 use Prim.Native.Nat.{ℕ}
@@ -92,6 +93,13 @@ module _ {A : Type 0} (a : A) (n : ℕ) (result : A → List ℕ) (out : List �
       go : (b : Bool) → fits (result a) out ≡ b → wrote result (given (or-else b n ∷ []) a) out ≡ written (result a) out
       go true e = rw e refl
       go false e = rw e refl
+
+-- ---- a refusal leaves the output
+
+module _ {A B : Type 0} (f : A → B) (result : A → List ℕ) (out : List ℕ) where
+  pub wrote-refused : (x : Answer A) (number line : ℕ) → told f x ≡ refusedBy number line → wrote result x out ≡ out
+  wrote-refused (returned a) number line e = let z : _≡_ {A = ℕ} 0 1 = cc in absurd (omega arith)
+  wrote-refused (refusedBy k l) number line e = refl
 
 -- ---- an enum that stands for an answer
 

@@ -24,7 +24,7 @@ use Rattle.analyser.specs.declared.Listed.{Listed}
 use Rattle.analyser.specs.declared.Listed.the-variants.{Count, Refused as ListRefused}
 use Rattle.analyser.specs.declared.Struck.{Struck}
 use Rattle.analyser.specs.declared.Struck.the-variants.{Length, Refused as StrikeRefused}
-use Rattle.analyser.proofs.Laws.Outputs.{room, no-room, call-short, call-whole, list-told, list-refused, strike-told, strike-refused}
+use Rattle.analyser.proofs.Laws.Outputs.{room, no-room, list-told, list-refused, list-wrote, strike-told, strike-refused, strike-wrote, strike-left}
 use Rattle.printing.specs.Printed.{refusalLine, hexLines, listPrinted, struckPrinted, Prints}
 use Rattle.printing.proofs.Laws.Lines.{lines-bytes}
 use Rattle.printing.proofs.Laws.Printed.{prints-not, prints-all, prints-other}
@@ -33,13 +33,13 @@ use Rattle.printing.proofs.Laws.Printed.{prints-not, prints-all, prints
 
 module _ (input out after : List ℕ) (r : Listed) (long : length out ≡ entryBytes * mostEntries) (a : listAnswer r ≡ listOf input out) where
   pub rowlist-counted : (n : ℕ) → r ≡ Count n → after ≡ listWritten input out → hexLines (take (entryBytes * n) after) ≡ listPrinted (parse input)
-  unfolding listPrinted listWritten
+  unfolding listPrinted
   rowlist-counted n e o =
       let w = list-told input out n (sym a ∙ ap listAnswer e) in
       let es = entries (w .of) in
       let b = length-bytes es in
       let m = w .tells in
-      ap (λ (l : List ℕ). hexLines (take (entryBytes * n) l)) (o ∙ call-whole bytes length entries out (parse input) (w .of) (w .read) (room (bytes es) out (w .keeps)) .1)
+      ap (λ (l : List ℕ). hexLines (take (entryBytes * n) l)) (o ∙ list-wrote input out w)
       ∙ ap hexLines (take-at (bytes es) (drop (length (bytes es)) out) (entryBytes * n) (omega arith))
       ∙ lines-bytes es
       ∙ sym (ap listPrinted (w .read))
@@ -57,14 +57,14 @@ module _ (input out after : List ℕ) (r : Listed) (long : length out ≡ entryB
 
 module _ (input out after : List ℕ) (r : Struck) (a : strikeAnswer r ≡ strikeOf input out) (o : after ≡ strikeWritten input out) where
   pub strike-whole : (n : ℕ) → r ≡ Length n → Prints (struckPrinted input (parse input)) out after n
-  unfolding struckPrinted strikeWritten
+  unfolding struckPrinted
   strike-whole n e =
       let w = strike-told input out n (sym a ∙ ap strikeAnswer e) in
       let result = struckText input (w .of) in
       let l = room result out (w .keeps) in
       prints-other (sym (ap (struckPrinted input) (w .read)))
       (prints-all result out after n l
-      (o ∙ call-whole (λ b. b) length (struckText input) out (parse input) (w .of) (w .read) l .1 ∙ written-all result out l)
+      (o ∙ strike-wrote input out w ∙ written-all result out l)
       (w .tells))
 
   module _ (number line : ℕ) (e : r ≡ StrikeRefused number line) where
@@ -74,20 +74,22 @@ module _ (input out after : List ℕ) (r : Struck) (a : strikeAnswer r ≡ strik
       | inr w ↦ let n = no-room (struckText input (w .0)) out number (w .2) in inr (w .0, w .1, n .0, n .1)
     ]
 
+    -- A refusal writes nothing.
+    unchanged : after ≡ out
+    unchanged = o ∙ strike-left input out number line (sym a ∙ ap strikeAnswer e)
+
     -- A text's own refusals have smaller numbers.
     pub strike-short : number ≡ shortOutput → Prints (struckPrinted input (parse input)) out after 0
-    unfolding struckPrinted strikeWritten
+    unfolding struckPrinted
     strike-short s = elim why [
       | inl p ↦ absurd (omega (arith, refused-line input number line p .1 .1))
-      | inr w ↦ prints-other (sym (ap (struckPrinted input) (w .1)))
-          (rw (o ∙ call-short (λ b. b) length (struckText input) out (parse input) (w .0) (w .1) (w .3) .1) (prints-not (struckText input (w .0)) out (w .3)))
+      | inr w ↦ prints-other (sym (ap (struckPrinted input) (w .1))) (rw unchanged (prints-not (struckText input (w .0)) out (w .3)))
     ]
 
-    -- Such a refusal writes nothing, so that its line is put into the output as it was.
+    -- The line of any other refusal is put into the output as it was.
     pub strike-refusal : {end : List ℕ} {n : ℕ} → (number ≡ shortOutput → ⊥) → Prints (refusalLine number line) after end n → Prints (struckPrinted input (parse input)) out end n
-    unfolding struckPrinted strikeWritten
+    unfolding struckPrinted
     strike-refusal {end} {n} other put = elim why [
-      | inl p ↦ prints-other (sym (ap (struckPrinted input) p))
-          (subst (λ (l : List ℕ). Prints (refusalLine number line) l end n) (o ∙ rw p refl) put)
+      | inl p ↦ prints-other (sym (ap (struckPrinted input) p)) (subst (λ (l : List ℕ). Prints (refusalLine number line) l end n) unchanged put)
       | inr w ↦ absurd (other (w .2))
     ]
