@@ -1,6 +1,6 @@
 -- Laws of conditions:
 --   both: two that hold together
---   refusal-holds, refusal-broken, refusal-none: the refusal of a list of conditions, by the first of them
+--   refusal-first, refusal-holds, refusal-broken, refusal-none: the refusal of a list of conditions, by the first of them
 --   none-broken, one-kept: conditions that are all kept
 --   Numbered, refusal-most: numbers up to a bound
 -- Assumes nothing.
@@ -9,11 +9,17 @@ use mathlib.Core.Path.{_≡_, refl, _∙_}
 use mathlib.Core.Bool.{Bool, true, false, _&&_, and-eq-true-iff}
 use mathlib.Core.List.{List, [], _∷_}
 use native.Mathlib.Omega.{arith}
+use Rattle.base.specs.Truths.{pick}
 use Rattle.base.specs.Checks.{Check, or-else, refusal}
 
 -- Two tests that hold together hold each.
 pub both : (a b : Bool) → (a && b) ≡ true → (a ≡ true) × (b ≡ true)
 both a b h = and-eq-true-iff a b .0 h
+
+-- The refusal of the others where the first holds, else its number.
+pub refusal-first : (b : Bool) (n : ℕ) (cs : List Check) → refusal (or-else b n ∷ cs) ≡ pick b (refusal cs) n
+unfolding refusal
+refusal-first b n cs = refl
 
 -- A condition that holds is passed by.
 pub refusal-holds : (b : Bool) (n : ℕ) (cs : List Check) → b ≡ true → refusal (or-else b n ∷ cs) ≡ refusal cs

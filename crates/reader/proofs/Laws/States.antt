@@ -11,7 +11,7 @@ use Prim.Native.Nat.{ℕ, suc}
 use native.Mathlib.Omega.{arith}
 use borrow.Author.Tests.{ne-eqb}
 use Rattle.base.specs.Checks.{refusal}
-use Rattle.base.proofs.Laws.Checks.{refusal-broken}
+use Rattle.base.proofs.Laws.Checks.{refusal-first, refusal-broken}
 use Rattle.frames.specs.Refusals.{wrongForm}
 use Rattle.frames.specs.Progress.{Progress, misfitOf}
 use Rattle.frames.specs.Kinds.{FrameName, ofEntity, ofCap, ofFloor, ofFilter, ofRow, describe}
@@ -47,17 +47,17 @@ module _ (p : Progress) (k : FrameName) (bs : List ℕ) where
   fitted h = misfit-none (describe k .long bs) (describe k .placed p (describe k .value bs)) h
 
   pub frame-misfit : (fitOf ≡ 0 → ⊥) → refusal (checks p (frameIn k bs)) ≡ fitOf
-  unfolding checks refusal
+  unfolding checks
   frame-misfit n = go (describe k .long bs) (describe k .placed p (describe k .value bs)) refl refl
     where
       go : (l b : Bool) → describe k .long bs ≡ l → describe k .placed p (describe k .value bs) ≡ b → refusal (checks p (frameIn k bs)) ≡ fitOf
-      go false b e f = rw e
-      go true false e f = rw (e, f)
+      go false b e f = rw (e, refusal-first)
+      go true false e f = rw (e, f, refusal-first)
       go true true e f = absurd (n (rw (e, f)))
 
   pub frame-content : fitOf ≡ 0 → refusal (checks p (frameIn k bs)) ≡ refusal (describe k .content (p .table) (describe k .value bs))
-  unfolding checks refusal
-  frame-content h = let fit = fitted h in rw (fit .0, fit .1)
+  unfolding checks
+  frame-content h = let fit = fitted h in rw (fit .0, fit .1, refusal-first)
 
   pub frame-grown : fitOf ≡ 0 → grown p (frameIn k bs) ≡ describe k .grown (describe k .value bs) p
   unfolding grown

@@ -11,11 +11,10 @@ use lib.Dec.{eqb}
 use borrow.Author.Tests.{eqb-false, eq-eqb, ne-eqb}
 use Rattle.policy.specs.Model.{noParent}
 use Rattle.base.specs.Truths.{Decides}
-use Rattle.base.specs.Lists.{among}
 use Rattle.relations.specs.Relations.{OneOfFive}
 use Rattle.relations.specs.Entities.{Tree, upward, ancestors, rootOf, AtOrAbove, atOrAbove, EntitiesStand, entityRelation}
 use Rattle.base.proofs.Laws.Decides.{decides-eqb, decides-holds, decided}
-use Rattle.base.proofs.Laws.Members.{among-decides}
+use Rattle.base.proofs.Laws.Members.{among-decides, among-nil, among-cons}
 use Rattle.relations.proofs.Laws.Relations.{Exclusive, found, only}
 
 -- ---- upward, a step at a time
@@ -151,12 +150,12 @@ module _ (up : ℕ → ℕ) (tree : Tree up) where
   test-here e f q = decides-holds (atOrAbove up e f) (atOrAbove-decides up e f) (rw q (above-self up f))
 
   pub test-top : (e f : ℕ) → (e ≡ f → ⊥) → up f ≡ noParent → atOrAbove up e f ≡ false
-  unfolding atOrAbove among
-  test-top e f n r = rw (ancestors-root up f r, ne-eqb e f n)
+  unfolding atOrAbove
+  test-top e f n r = rw (ancestors-root up f r, among-cons, among-nil, ne-eqb e f n)
 
   pub test-next : (e f : ℕ) → (e ≡ f → ⊥) → (up f ≡ noParent → ⊥) → atOrAbove up e f ≡ atOrAbove up e (up f)
-  unfolding atOrAbove among
-  test-next e f n r = rw (ancestors-next f r, ne-eqb e f n)
+  unfolding atOrAbove
+  test-next e f n r = rw (ancestors-next f r, among-cons, ne-eqb e f n)
 
   -- ---- the five relations
 

@@ -1,15 +1,14 @@
 -- `filter::broken` meets its contract: its tests are the conditions of a filter's content, in their order. Assumes nothing.
 use borrow.Author.Needs.{needs}
-use Rattle.base.specs.Checks.{refusal}
+use Rattle.base.proofs.Laws.Checks.{refusal-first, none-broken}
 use Rattle.frames.proofs.filter.broken.Statement.{statement}
 use Rattle.frames.proofs.filter.broken.Tie as tie
 
 returns : tie.Need-returns
-unfolding refusal
 returns c =
     let r = c .before in
     let e = r .before in
-    rw (← r .is-root .ensures, ← e .before .inhabited .ensures, ← e .or-else .ensures) (c .or-else2 .ensures)
+    simp (refusal-first, none-broken) (rw (← r .is-root .ensures, ← e .before .inhabited .ensures, ← e .or-else .ensures) (c .or-else2 .ensures))
 
 pub broken-spec : {M : Type 1} → statement M
 broken-spec =
