@@ -2,5 +2,6 @@
 pub mod Texts
 pub mod Calls
 pub mod Outputs
+pub mod RelationPromises
 pub mod Promises
 pub mod Examples

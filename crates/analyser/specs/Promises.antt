@@ -1,33 +1,33 @@
--- Demands 1 to 3, on the calls, for every text.
+-- Demands 1 to 3, on the calls, for every text. Numbers of document 01 stand here as it prints them. (Demand 2 on relations is in RelationPromises.)
 -- Assumes nothing.
-use Prim.Native.Nat.{ℕ, _*_, _≤_, _<_}
+use Prim.Native.Nat.{ℕ, _+_, _*_, _≤_, _<_}
 use mathlib.Core.Path.{_≡_}
+use mathlib.Core.Bool.{not}
 use mathlib.Core.Logic.{_↔_}
-use mathlib.Core.List.{List, [], _++_, List·Memᴰ}
-use lib.ListN.{length, drop}
-use Rattle.hex.specs.Lines.{bytesOf}
-use Rattle.policy.specs.Model.{Packet, Row, Table, Coefficients, Selector, rowAt, parentOf}
-use Rattle.policy.specs.Wellformed.{IsEntity, Ordered}
+use mathlib.Core.List.{List, [], _∷_, _++_, map, List·Memᴰ}
+use lib.ListN.{length, drop, getD}
+use Rattle.hex.specs.Lines.{NoLine, isLine, bytesOf}
+use Rattle.policy.specs.Model.{Packet, Row, Table, rowAt, parentOf}
+use Rattle.policy.specs.Wellformed.{IsEntity, widths}
 use Rattle.base.specs.Truths.{Decides}
-use Rattle.relations.specs.Relations.{OneOfFive}
-use Rattle.relations.specs.Entities.{Tree, AtOrAbove, atOrAbove, EntitiesStand, entityRelation}
-use Rattle.relations.specs.Technologies.{Dominates, dominates, TechnologiesStand, technologyRelation}
-use Rattle.relations.specs.Coefficients.{AtLeast, atLeast}
-use Rattle.relations.specs.Selectors.{Holds, holds, Contains, contains, Overlap, overlaps}
-use Rattle.relations.specs.Groups.{SameGroup, sameGroup, Matches, matches, Wins, Dead, winnerFrom}
-use Rattle.frames.specs.Refusals.{noLine, protectedNull, shortOutput, noSuchRow, noSuchEntity}
-use Rattle.reader.specs.Frames.{aRow, frameOf}
+use Rattle.relations.specs.Entities.{Tree}
+use Rattle.relations.specs.Groups.{SameGroup, Matches, matches, Wins, Dead, winnerFrom}
+use Rattle.frames.specs.Kinds.{ofEntity, ofCap, ofFloor, ofFilter, ofRow, describe}
+use Rattle.reader.specs.Frames.{Frame, aRow, frameOf}
+use Rattle.reader.specs.Forms.{SaysFrame}
 use Rattle.base.specs.Checks.{Check}
 use Rattle.base.specs.Answers.{returned, refusedBy, callOn}
 use Rattle.reader.specs.States.{parse}
 use Rattle.reader.specs.Rules.{KeepsRules}
+use Rattle.reader.specs.Faults.{FaultAt, FirstFault}
 use Rattle.search.specs.Least.{_≤ₚ_}
-use Rattle.kinds.specs.Kinds.{Anomaly, noSecond}
-use Rattle.kinds.specs.Entries.{entry, entries, Ascending, mostEntries}
-use Rattle.listing.specs.Bytes.{bytes, entryBytes}
+use Rattle.kinds.specs.Meanings.{InternalLoop, OutOfPlace, NonEnforceable, Inadequate, Shadowing, Redundancy, Exception, Correlation, Inclusion, Affinity, Contradiction, Superfluous, Skewed, Filtered, LayerTwo, Asymmetric, Cyclic, Monitorable, AlternativePath}
+use Rattle.kinds.specs.Kinds.{Anomaly}
+use Rattle.kinds.specs.Entries.{Entry, entry, entries, Ascending}
+use Rattle.listing.specs.Bytes.{bytes}
 use Rattle.striking.specs.Striking.{kept, struck, SameWinner}
 use Rattle.striking.specs.Texts.{struckText}
-use Rattle.analyser.specs.Calls.{countsOf, checkOf, linePart, saysDead, givesPacket, witnessOf, winningRow, nobodyWins, outcomeOf, winnerOf, listOf, listWritten, strikeOf, strikeWritten, refusalWeight}
+use Rattle.analyser.specs.Calls.{countsOf, checkOf, linePart, saysDead, givesPacket, witnessOf, winningRow, nobodyWins, outcomeOf, winnerOf, listOf, listWritten, strikeOf, strikeWritten, packed}
 
 -- ---- demand 1
 
@@ -35,6 +35,17 @@ use Rattle.analyser.specs.Calls.{countsOf, checkOf, linePart, saysDead, 
 pub record Reading : Type 0 where
   pub accepts : (text : List ℕ) (t : Table) → (parse text ≡ returned t) ↔ KeepsRules text t
   pub refuses : (text : List ℕ) → ((t : Table) → KeepsRules text t → ⊥) → (number : ℕ) × (line : ℕ) × (parse text ≡ refusedBy number line)
+  -- what is a line, and what a line's bytes say
+  pub lines : (line : List ℕ) → Decides (not (isLine line)) (NoLine line)
+  pub frames : (bs : List ℕ) (f : Frame) → (frameOf bs ≡ f) ↔ SaysFrame bs f
+  -- "01 entity", "02 cap", "03 floor", "04 filter", "05 row"
+  pub kind-bytes : map (λ k. describe k .byte) (ofEntity ∷ ofCap ∷ ofFloor ∷ ofFilter ∷ ofRow ∷ []) ≡ 1 ∷ 2 ∷ 3 ∷ 4 ∷ 5 ∷ []
+  -- "source address (4 bytes each), destination address (4), source port (2), destination port (2), protocol (1)"
+  pub box : widths ≡ 4 ∷ 4 ∷ 2 ∷ 2 ∷ 1 ∷ []
+  -- "The first faulty line counts (lines from 1), there the least number", each number as the table of returns says it
+  pub first-fault : (text : List ℕ) (number line : ℕ) → (parse text ≡ refusedBy number line) ↔ FirstFault text number line
+  -- a text that keeps the rules has no fault, at whatever line
+  pub faultless : (text : List ℕ) (t : Table) → KeepsRules text t → (k n : ℕ) → FaultAt text k n → ⊥
 
 -- "Every other text .. gets its number from document 01 (Line, which returns none, gives its empty part), and lent output stays
 -- unchanged." Of a text that is refused:
@@ -48,52 +59,74 @@ pub record RefusedText (text : List ℕ) (number at : ℕ) : Type 1 where
   pub strike : (out : List ℕ) → (strikeOf text out ≡ refusedBy number at) × (strikeWritten text out ≡ out)
   pub winner : (k a b : ℕ) (p : Packet) → winnerOf text k a b p ≡ refusedBy number at
   -- the numbers of a text's faults, and a line of two digits
-  pub numbers : (noLine ≤ number) × (number ≤ protectedNull) × (at < 256)
+  pub numbers : (1 ≤ number) × (number ≤ 7) × (at < 256)
 
 -- "Every .. row number, entity number or short output buffer": of a text that is accepted, 9, then 10, and 8.
 pub record AcceptedText (text : List ℕ) (t : Table) : Type 0 where
   pub check : checkOf text ≡ returned (countsOf t)
+  -- its parents are earlier entities, as the promises on ⪰ ask
+  pub parents : Tree (parentOf t)
   -- Line's part of the text says the row.
   pub line : (k : ℕ) → k < length (t .rows) → frameOf (bytesOf (linePart text k)) ≡ aRow (rowAt t k)
   pub no-row : (k : ℕ) → length (t .rows) ≤ k
-      → (linePart text k ≡ []) × (witnessOf text k ≡ refusedBy noSuchRow 0) × ((a b : ℕ) (p : Packet) → winnerOf text k a b p ≡ refusedBy noSuchRow 0)
-  pub no-entity : (k a b : ℕ) (p : Packet) → k < length (t .rows) → (IsEntity t a × IsEntity t b → ⊥)
-      → winnerOf text k a b p ≡ refusedBy noSuchEntity 0
-  pub short-list : (out : List ℕ) → length out < entryBytes * length (entries t) → (listOf text out ≡ refusedBy shortOutput 0) × (listWritten text out ≡ out)
-  pub short-strike : (out : List ℕ) → length out < length (struckText text t) → (strikeOf text out ≡ refusedBy shortOutput 0) × (strikeWritten text out ≡ out)
+      → (linePart text k ≡ []) × (witnessOf text k ≡ refusedBy 9 0) × ((a b : ℕ) (p : Packet) → winnerOf text k a b p ≡ refusedBy 9 0)
+  pub no-entity : (k a b : ℕ) (p : Packet) → k < length (t .rows) → (IsEntity t a × IsEntity t b → ⊥) → winnerOf text k a b p ≡ refusedBy 10 0
+  pub short-list : (out : List ℕ) → length out < 3 * length (entries t) → (listOf text out ≡ refusedBy 8 0) × (listWritten text out ≡ out)
+  pub short-strike : (out : List ℕ) → length out < length (struckText text t) → (strikeOf text out ≡ refusedBy 8 0) × (strikeWritten text out ≡ out)
 
 -- ---- demand 2
 
--- "Entity, technology, coefficient and selector relations hold when and only when their definitions do."
-pub record Relations : Type 1 where
-  pub entities : (up : ℕ → ℕ) (e f : ℕ) → Decides (atOrAbove up e f) (AtOrAbove up e f)
-  -- of two entities exactly one of equal, ⪰ one way or the other, kin and disjoint holds, and the test finds it
-  pub between-entities : (up : ℕ → ℕ) → Tree up → (e f : ℕ) → EntitiesStand up e f (entityRelation up e f) × OneOfFive (EntitiesStand up e f)
-  pub technologies : (t u : ℕ) → Decides (dominates t u) (Dominates t u)
-  pub between-technologies : (t u : ℕ) → TechnologiesStand t u (technologyRelation t u) × OneOfFive (TechnologiesStand t u)
-  pub coefficients : (c d : Coefficients) → Decides (atLeast c d) (AtLeast c d)
-  pub packets : (s : Selector) (p : Packet) → Decides (holds s p) (Holds s p)
-  pub containment : (s1 s2 : Selector) → Ordered s2 → Decides (contains s1 s2) (Contains s1 s2)
-  pub overlap : (s1 s2 : Selector) → Ordered s1 → Ordered s2 → Decides (overlaps s1 s2) (Overlap s1 s2)
-  pub groups : (r q : Row) → Decides (sameGroup r q) (SameGroup r q)
-  pub matching : (up : ℕ → ℕ) (r : Row) (a b : ℕ) (p : Packet) → Decides (matches up r a b p) (Matches up r a b p)
+-- The anomalies of a kind of one row, and of one of two rows: "Its entry is i, the kind, and j or FF."
+abbrev pub OfOne : Table → ℕ → (ℕ → Type 0) → Type 0
+OfOne t kind P = (i j : ℕ) → Anomaly t i kind j ↔ ((i < length (t .rows)) × (j ≡ 255) × P i)
+
+abbrev pub OfTwo : Table → ℕ → (ℕ → ℕ → Type 0) → Type 0
+OfTwo t kind P = (i j : ℕ) → Anomaly t i kind j ↔ ((i < length (t .rows)) × (j < length (t .rows)) × P i j)
+
+-- "An anomaly is one of these kinds holding of row i, or of rows i and j", by the kinds' numbers.
+pub record KindNumbers (t : Table) : Type 0 where
+  pub internal-loop : OfOne t 1 (InternalLoop t)
+  pub out-of-place : OfOne t 2 (OutOfPlace t)
+  pub non-enforceable : OfOne t 3 (NonEnforceable t)
+  pub inadequate : OfOne t 4 (Inadequate t)
+  pub shadowing : OfTwo t 5 (Shadowing t)
+  pub redundancy : OfTwo t 6 (Redundancy t)
+  pub exception : OfTwo t 7 (Exception t)
+  pub correlation : OfTwo t 8 (Correlation t)
+  pub inclusion : OfTwo t 9 (Inclusion t)
+  pub affinity : OfTwo t 10 (Affinity t)
+  pub contradiction : OfTwo t 11 (Contradiction t)
+  pub superfluous : OfOne t 12 (Superfluous t)
+  pub skewed : OfTwo t 13 (Skewed t)
+  pub filtered : OfOne t 14 (Filtered t)
+  pub layer-two : OfOne t 15 (LayerTwo t)
+  pub asymmetric : OfOne t 16 (Asymmetric t)
+  pub cyclic : OfOne t 17 (Cyclic t)
+  pub monitorable : OfTwo t 18 (Monitorable t)
+  pub alternative-path : OfOne t 19 (AlternativePath t)
+  pub dead : OfOne t 20 (Dead t)
+  -- there is no other kind
+  pub no-other : (i kind j : ℕ) → Anomaly t i kind j → (1 ≤ kind) × (kind ≤ 20)
 
 -- "The list is the one that the twenty kinds .. define: no entry more, none less."
 pub record ListPromise (text : List ℕ) (t : Table) : Type 0 where
   -- given space, List writes the entries and returns their count
-  pub written : (out : List ℕ) → entryBytes * length (entries t) ≤ length out
-      → (listOf text out ≡ returned (length (entries t))) × (listWritten text out ≡ bytes (entries t) ++ drop (entryBytes * length (entries t)) out)
+  pub written : (out : List ℕ) → 3 * length (entries t) ≤ length out
+      → (listOf text out ≡ returned (length (entries t))) × (listWritten text out ≡ bytes (entries t) ++ drop (3 * length (entries t)) out)
+  -- "three bytes an entry (first row, kind, second number)"
+  pub three : (bytes [] ≡ []) × ((i kind j : ℕ) (l : List Entry) → bytes (entry i kind j ∷ l) ≡ i ∷ kind ∷ j ∷ bytes l)
   -- "List's entries are exactly the table's anomalies of the twenty kinds, each once, in document 01's order."
   pub exact : (i kind j : ℕ) → List·Memᴰ (entry i kind j) (entries t) ↔ Anomaly t i kind j
+  pub kinds : KindNumbers t
   pub ascending : Ascending (entries t)
   -- "At most 12,800 entries"
-  pub few : length (entries t) ≤ mostEntries
+  pub few : length (entries t) ≤ 12800
 
 -- ---- demand 3
 
 pub record WitnessPromise (text : List ℕ) (t : Table) : Type 0 where
   -- "A row is listed as dead exactly when it wins no probe, and exactly then Witness says dead."
-  pub listed : (i : ℕ) → i < length (t .rows) → List·Memᴰ (entry i 20 noSecond) (entries t) ↔ Dead t i
+  pub listed : (i : ℕ) → i < length (t .rows) → List·Memᴰ (entry i 20 255) (entries t) ↔ Dead t i
   pub witnessed : (i : ℕ) → i < length (t .rows) → (witnessOf text i ≡ saysDead) ↔ Dead t i
   -- "For every other row Witness gives a packet with which the row wins the probe from its own source to its own destination, and no
   -- probe that the row wins has a smaller packet."
@@ -112,6 +145,12 @@ pub record StrikePromise (text : List ℕ) (t : Table) : Type 0 where
   -- "The text that Strike writes is accepted, and none of its rows is dead."
   pub taken : parse (struckText text t) ≡ returned (struck t)
   pub alive : (k : ℕ) → k < length (struck t .rows) → Dead (struck t) k → ⊥
+  -- "kept are all rows but the dead", in their order
+  pub all-kept : (i : ℕ) → List·Memᴰ i (kept t) ↔ ((i < length (t .rows)) × (Dead t i → ⊥))
+  pub in-order : (j m : ℕ) → j < m → m < length (kept t) → getD (kept t) j 0 < getD (kept t) m 0
+  -- the struck text has these rows, and all else as it was
+  pub rows : struck t .rows ≡ map (rowAt t) (kept t)
+  pub others : (struck t .entities ≡ t .entities) × (struck t .caps ≡ t .caps) × (struck t .floor ≡ t .floor) × (struck t .filters ≡ t .filters)
   -- "For every group and every probe, the winner in that text is the row that won before; where none won before, none wins." The row g
   -- names a group by its holder, technology and gateways; row k of the struck text is compared as the k-th kept row.
   pub winners : (g : Row) (a b : ℕ) (p : Packet) → IsEntity t a → IsEntity t b
@@ -132,7 +171,8 @@ pub record WinnerPromise (text : List ℕ) (t : Table) : Type 0 where
 
 -- ---- List for C
 
--- The number in return tells the count from a refusal, and a refusal's number from its line.
+-- "a number in return: the count, or 65,536 × refusal + line". It tells the count from a refusal, and a refusal's number from its line.
 pub record PackedPromise (text out : List ℕ) : Type 0 where
-  pub count : (n : ℕ) → listOf text out ≡ returned n → n < refusalWeight
-  pub refusals : (number line : ℕ) → listOf text out ≡ refusedBy number line → (noLine ≤ number) × (number ≤ noSuchEntity) × (line < refusalWeight)
+  pub count : (n : ℕ) → listOf text out ≡ returned n → (packed (listOf text out) ≡ n) × (n < 65536)
+  pub refusals : (number line : ℕ) → listOf text out ≡ refusedBy number line
+      → (packed (listOf text out) ≡ 65536 * number + line) × (1 ≤ number) × (number ≤ 10) × (line < 65536)

@@ -99,7 +99,7 @@ pub fn witness_of(text: &[u8], k: usize) -> Witness
             line: r.line,
         };
     }
-    if r.table.rows <= k {
+    if k >= r.table.rows {
         return Witness::Refused {
             number: refusals::NO_SUCH_ROW,
             line: 0,

@@ -1,13 +1,15 @@
 -- Document 01, "The table text": caps.
 -- Assumes nothing.
 use Prim.Native.Nat.{ℕ, _+_}
+use mathlib.Core.Path.{_≡_}
 use mathlib.Core.Bool.{Bool, _&&_}
-use mathlib.Core.List.{List, []}
+use mathlib.Core.List.{List, [], _∷_}
 use lib.Dec.{eqb, ltb}
 use lib.ListN.{length, getD}
-use Rattle.policy.specs.Limits.{technologies}
+use Rattle.policy.specs.Limits.{technologies, coefficientCount}
 use Rattle.policy.specs.Model.{Coefficients}
 use Rattle.policy.specs.Views.{withCap}
+use Rattle.frames.specs.Faults.{nothingJudged}
 use Rattle.frames.specs.Progress.{FrameKind}
 use Rattle.frames.specs.Parts.{coefficientsFrom}
 
@@ -36,7 +38,9 @@ capKind =
       byte = 2;
       long = capLength;
       value = λ bs. record { technology = capTechnology bs; coefficients = capFrom bs };
+      says = λ bs c. (length (c .coefficients) ≡ coefficientCount) × (bs ≡ c .technology ∷ c .coefficients);
       placed = λ p c. capPlace (length (p .table .entities)) (length (p .table .caps)) (c .technology);
       content = λ t c. [];
+      judged = λ c. nothingJudged;
       grown = λ c p. record { table = withCap (c .coefficients) (p .table); floored = p .floored };
     }

@@ -1,6 +1,7 @@
 -- Document 01, "The table text": entities. `layers` are those of the entities read so far, by number.
 -- Assumes nothing.
 use Prim.Native.Nat.{ℕ, _%_, _^_}
+use mathlib.Core.Path.{_≡_}
 use mathlib.Core.Bool.{Bool, _&&_}
 use mathlib.Core.List.{List, [], _∷_}
 use lib.Dec.{eqb, ltb}
@@ -51,7 +52,16 @@ entityKind =
       byte = 1;
       long = entityLength;
       value = entityFrom;
+      says = λ bs e. bs ≡ e .parent ∷ e .layer ∷ e .mask ∷ [];
       placed = λ p e. entityPlace (length (p .table .caps)) (length (p .table .entities));
       content = λ t e. entityContent (layersOf t) e;
+      judged = λ e. record {
+        entities = e ∷ [];
+        roots = [];
+        ends = [];
+        technologies = [];
+        coefficients = [];
+        ranges = [];
+      };
       grown = λ e p. record { table = withEntity e (p .table); floored = p .floored };
     }

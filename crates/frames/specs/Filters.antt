@@ -1,6 +1,7 @@
 -- Document 01, "The table text": filters. `parents` are those of the entities read so far, by number.
 -- Assumes nothing.
 use Prim.Native.Nat.{ℕ, _+_}
+use mathlib.Core.Path.{_≡_}
 use mathlib.Core.Bool.{Bool, _&&_}
 use mathlib.Core.List.{List, [], _∷_}
 use lib.Dec.{eqb, ltb}
@@ -13,7 +14,7 @@ use Rattle.policy.specs.Wellformed.{widths}
 use Rattle.relations.specs.Selectors.{inhabited}
 use Rattle.frames.specs.Refusals.{badNumber, emptyRange}
 use Rattle.frames.specs.Progress.{FrameKind}
-use Rattle.frames.specs.Parts.{selectorFrom, boxBytes}
+use Rattle.frames.specs.Parts.{selectorFrom, SaysBox, boxBytes}
 use Rattle.frames.specs.Numbers.{isRoot}
 
 -- "04 filter, 28 bytes: kind, root, box."
@@ -38,7 +39,16 @@ filterKind =
       byte = 4;
       long = filterLength;
       value = filterFrom;
+      says = λ bs f. (box : List ℕ) × SaysBox widths box (f .selector) × (bs ≡ f .root ∷ box);
       placed = λ p f. filterPlace (p .floored) (length (p .table .rows)) (length (p .table .filters));
       content = λ t f. filterContent (parentsOf t) f;
+      judged = λ f. record {
+        entities = [];
+        roots = f .root ∷ [];
+        ends = [];
+        technologies = [];
+        coefficients = [];
+        ranges = f .selector;
+      };
       grown = λ f p. record { table = withFilter f (p .table); floored = p .floored };
     }

@@ -1,13 +1,15 @@
 -- Document 01, "The table text": the floor.
 -- Assumes nothing.
 use Prim.Native.Nat.{ℕ}
+use mathlib.Core.Path.{_≡_}
 use mathlib.Core.Bool.{Bool, _&&_}
 use mathlib.Core.List.{List, []}
 use lib.Dec.{eqb}
 use lib.ListN.{length}
-use Rattle.policy.specs.Limits.{technologies}
+use Rattle.policy.specs.Limits.{technologies, coefficientCount}
 use Rattle.policy.specs.Model.{Coefficients}
 use Rattle.policy.specs.Views.{withFloor}
+use Rattle.frames.specs.Faults.{nothingJudged}
 use Rattle.frames.specs.Progress.{FrameKind}
 use Rattle.frames.specs.Parts.{coefficientsFrom}
 
@@ -28,7 +30,9 @@ floorKind =
       byte = 3;
       long = floorLength;
       value = floorFrom;
+      says = λ bs c. (length c ≡ coefficientCount) × (bs ≡ c);
       placed = λ p c. floorPlace (length (p .table .caps)) (p .floored);
       content = λ t c. [];
+      judged = λ c. nothingJudged;
       grown = λ c p. record { table = withFloor c (p .table); floored = 1 };
     }

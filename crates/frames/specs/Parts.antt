@@ -1,9 +1,10 @@
 -- Document 01, "The table text": what several kinds of frames have, a byte at a place, coefficients and a box. A box is of any widths.
 -- Assumes nothing.
 use Prim.Native.Nat.{ℕ, _+_, _*_}
-use mathlib.Core.List.{List, [], _∷_}
-use lib.ListN.{getD}
-use Rattle.hex.specs.Numbers.{field}
+use mathlib.Core.Path.{_≡_}
+use mathlib.Core.List.{List, [], _∷_, _++_}
+use lib.ListN.{length, getD}
+use Rattle.hex.specs.Numbers.{numberOf, field}
 use Rattle.policy.specs.Model.{Coefficients, Range, Selector}
 
 -- Three coefficients, a byte each, from place `at` on.
@@ -18,6 +19,19 @@ rangeFrom at width bs = record { low = field at width bs; high = field (at + wid
 abbrev pub selectorFrom : ℕ → List ℕ → List ℕ → Selector
 selectorFrom at [] bs = []
 selectorFrom at (w ∷ ws) bs = rangeFrom at w bs ∷ selectorFrom (at + 2 * w) ws bs
+
+-- "Numbers are most significant byte first": so many bytes say the number.
+abbrev pub SaysNumber : ℕ → List ℕ → ℕ → Type 0
+SaysNumber width bs n = (length bs ≡ width) × (numberOf bs ≡ n)
+
+-- "A box has low and high of five fields": the bytes say them, of fields with these widths.
+abbrev pub SaysBox : List ℕ → List ℕ → Selector → Type 0
+SaysBox [] bs [] = bs ≡ []
+SaysBox [] bs (r ∷ s) = ⊥
+SaysBox (w ∷ ws) bs [] = ⊥
+SaysBox (w ∷ ws) bs (r ∷ s) =
+    (low : List ℕ) × (high : List ℕ) × (rest : List ℕ) × (bs ≡ low ++ (high ++ rest))
+    × SaysNumber w low (r .low) × SaysNumber w high (r .high) × SaysBox ws rest s
 
 -- The widest number that the code reads from a line, in bytes.
 abbrev pub mostWidth : ℕ

@@ -9,6 +9,7 @@ use Rattle.base.specs.Truths.{pick}
 use Rattle.policy.specs.Model.{Table, linesBefore}
 use Rattle.policy.specs.Views.{noTable}
 use Rattle.frames.specs.Refusals.{wrongForm, outOfSequence}
+use Rattle.frames.specs.Faults.{Judged}
 
 -- The table so far, and 1 once the floor has been read, else 0.
 pub record Progress : Type 0 where
@@ -23,17 +24,20 @@ abbrev pub linesRead : Progress → ℕ
 linesRead p = linesBefore (p .floored) (p .table) + length (p .table .rows)
 
 -- A kind of frame, each of which says an A.
-pub record FrameKind (A : Type 0) : Type 0 where
+pub record FrameKind (A : Type 0) : Type 1 where
   -- its kind byte
   pub byte : ℕ
   -- the bytes have the kind's length; else 2
   pub long : List ℕ → Bool
-  -- what they say
+  -- what they say: as a value, and what it is to say it
   pub value : List ℕ → A
+  pub says : List ℕ → A → Type 0
   -- the sequence can go on with it; else 3
   pub placed : Progress → A → Bool
   -- the rules of its content: 4 to 7
   pub content : Table → A → List Check
+  -- what it says that they judge
+  pub judged : A → Judged
   -- what has been read, and it
   pub grown : A → Progress → Progress
 

@@ -1,8 +1,9 @@
 -- Document 01, "The table text": rows, whose box has fields of any widths. `parents` are those of the entities read so far, by number.
 -- Assumes nothing.
-use Prim.Native.Nat.{ℕ, _+_}
+use Prim.Native.Nat.{ℕ, _+_, _≤_}
+use mathlib.Core.Path.{_≡_}
 use mathlib.Core.Bool.{Bool, not, _&&_, _||_}
-use mathlib.Core.List.{List, [], _∷_}
+use mathlib.Core.List.{List, [], _∷_, _++_}
 use lib.Dec.{eqb, leb, ltb}
 use lib.ListN.{length, getD, take, drop}
 use Rattle.base.specs.Checks.{Check, or-else}
@@ -12,7 +13,7 @@ use Rattle.policy.specs.Views.{withRow}
 use Rattle.relations.specs.Selectors.{inhabited}
 use Rattle.frames.specs.Refusals.{badNumber, emptyRange, protectedNull}
 use Rattle.frames.specs.Progress.{FrameKind}
-use Rattle.frames.specs.Parts.{coefficientsFrom, selectorFrom, boxBytes}
+use Rattle.frames.specs.Parts.{coefficientsFrom, selectorFrom, SaysBox, boxBytes}
 use Rattle.base.specs.Lists.{allPass}
 use Rattle.frames.specs.Numbers.{isEntity, isRoot, allRoots}
 
@@ -40,6 +41,15 @@ rowFrame ws bs =
       selector = selectorFrom boxPlace ws bs;
       gateways = take (getD bs (countPlace ws) 0) (drop (countPlace ws + 1) bs);
     }
+
+-- The bytes say the row, whose box has these widths.
+pub record SaysRow (ws bs : List ℕ) (r : Row) : Type 0 where
+  pub box : List ℕ
+  pub selector : SaysBox ws box (r .selector)
+  pub coefficients : length (r .coefficients) ≡ coefficientCount
+  pub few : length (r .gateways) ≤ mostGateways
+  pub bytes : bs
+      ≡ r .holder ∷ r .source ∷ r .destination ∷ r .technology ∷ (r .coefficients ++ (box ++ (length (r .gateways) ∷ r .gateways)))
 
 -- "0 to 64 rows", after the floor and the filters.
 abbrev pub rowPlace : (floored rows : ℕ) → Bool
@@ -74,7 +84,16 @@ rowKind byte ws =
       byte = byte;
       long = rowLength ws;
       value = rowFrame ws;
+      says = SaysRow ws;
       placed = λ p r. rowPlace (p .floored) (length (p .table .rows));
       content = λ t r. rowContent (parentsOf t) r;
+      judged = λ r. record {
+        entities = [];
+        roots = r .holder ∷ r .gateways;
+        ends = r .source ∷ r .destination ∷ [];
+        technologies = r .technology ∷ [];
+        coefficients = r .coefficients;
+        ranges = r .selector;
+      };
       grown = λ r p. record { table = withRow r (p .table); floored = p .floored };
     }

@@ -1,7 +1,8 @@
 -- Document 01, "The table text": digits 0-9 and A-F. Characters are bytes, in ASCII.
 -- Assumes nothing.
-use Prim.Native.Nat.{ℕ, _+_, _-_, _*_, _/_, _%_}
+use Prim.Native.Nat.{ℕ, _+_, _-_, _*_, _/_, _%_, _≤_}
 use mathlib.Core.Bool.{Bool, _&&_}
+use mathlib.Core.Logic.{_⊎_}
 use mathlib.Core.List.{List, [], _∷_}
 use lib.Dec.{ltb, leb}
 use Rattle.base.specs.Truths.{pick}
@@ -9,6 +10,10 @@ use Rattle.base.specs.Truths.{pick}
 -- The value of a digit: 0 to 9 for 0-9, 10 to 15 for A-F; 16 for every other byte.
 unfoldable pub digitValue : ℕ → ℕ
 digitValue c = pick (leb 48 c && leb c 57) (c - 48) (pick (leb 65 c && leb c 70) (c - 55) 16)
+
+-- "digits 0-9 A-F"
+abbrev pub Digit : ℕ → Type 0
+Digit c = ((48 ≤ c) × (c ≤ 57)) ⊎ ((65 ≤ c) × (c ≤ 70))
 
 abbrev pub isDigit : ℕ → Bool
 isDigit c = ltb (digitValue c) 16

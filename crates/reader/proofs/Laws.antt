@@ -7,6 +7,10 @@ pub mod Runs
 pub mod Wellformed
 pub mod Alike
 pub mod Sequence
+pub mod Leads
 pub mod Rules
+pub mod Forms
+pub mod Faults
+pub mod Refused
 pub mod Rows
 pub mod Texts

@@ -11,11 +11,12 @@ use Rattle.relations.specs.Relations.{relationBy}
 use Rattle.relations.specs.declared.relation.Relation.{Relation}
 use Rattle.relations.specs.declared.relation.Relation.the-variants.{Equal, Above, Below, Kin, Disjoint}
 
--- The layer of a technology; NULL has none, and 0 stands there.
+-- The layer of a technology; NULL has none, and 0 stands there. Technologies are the numbers up to 6, and a table has no others; of numbers
+-- above them nothing is claimed.
 unfoldable pub layerOf : ℕ → ℕ
 layerOf t = getD (0 ∷ 2 ∷ 2 ∷ 3 ∷ 5 ∷ 5 ∷ 7 ∷ []) t 0
 
--- "A smaller layer dominates (≻)", between technologies that are not NULL.
+-- "A smaller layer dominates (≻)", between technologies that are not NULL. Of numbers above 6, which are no technologies, nothing is claimed.
 pub record Dominates (t u : ℕ) : Type 0 where
   pub upper : t ≡ 0 → ⊥
   pub lower : u ≡ 0 → ⊥

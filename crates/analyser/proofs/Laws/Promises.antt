@@ -4,46 +4,57 @@ use Prim.Native.Nat.{ℕ, _<_}
 use native.Mathlib.Omega.{arith}
 use borrow.Author.Tests.{le-ltb}
 use mathlib.Core.Path.{_≡_, refl, sym, ap, _∙_}
-use mathlib.Core.Logic.{inl, inr}
+use mathlib.Core.Logic.{_↔_, inl, inr}
 use mathlib.Core.List.{List, _++_}
 use lib.ListN.{length, drop}
 use Rattle.policy.specs.Model.{Packet, Table, rowAt}
 use Rattle.policy.specs.Wellformed.{Wellformed}
 use Rattle.relations.specs.Groups.{Wins, Dead}
-use Rattle.relations.proofs.Laws.Entities.{atOrAbove-decides, entityRelation-holds, one-entity-relation}
-use Rattle.relations.proofs.Laws.Technologies.{dominates-decides, technologyRelation-holds, one-technology-relation}
-use Rattle.relations.proofs.Laws.Coefficients.{atLeast-decides}
-use Rattle.relations.proofs.Laws.Selectors.{holds-decides, contains-decides, overlaps-decides}
-use Rattle.relations.proofs.Laws.Groups.{sameGroup-decides, matches-decides, winner-group, winner-wins, winner-nobody, winner-named}
+use Rattle.relations.proofs.Laws.Tables.{table-tree}
+use Rattle.relations.proofs.Laws.Groups.{winner-group, winner-wins, winner-nobody, winner-named}
 use Rattle.base.specs.Answers.{returned, refusedBy}
 use Rattle.base.proofs.Laws.Decides.{decided, decides-and, decides-ltb}
 use Rattle.reader.specs.States.{parse}
 use Rattle.reader.proofs.Laws.Wellformed.{accepted-wellformed, refused-line}
 use Rattle.reader.proofs.Laws.Rules.{accepted-exactly, refused-otherwise}
+use Rattle.hex.proofs.Laws.Lines.{noLine-decides}
+use Rattle.reader.proofs.Laws.Forms.{frame-said}
+use Rattle.reader.proofs.Laws.Refused.{refused-exactly, accepted-faultless}
 use Rattle.search.specs.Search.{SearchResult, found, none}
 use Rattle.search.specs.Least.{_≤ₚ_}
 use Rattle.verdicts.specs.Verdicts.{verdictOn}
 use Rattle.verdicts.proofs.Laws.Verdicts.{verdicts}
-use Rattle.kinds.specs.Kinds.{noSecond}
-use Rattle.kinds.specs.Entries.{entries}
-use Rattle.kinds.proofs.Laws.Entries.{entries-exact}
+use Rattle.kinds.specs.Meanings.{InternalLoop, OutOfPlace, NonEnforceable, Inadequate, Shadowing, Redundancy, Exception, Correlation, Inclusion, Affinity, Contradiction, Superfluous, Skewed, Filtered, LayerTwo, Asymmetric, Cyclic, Monitorable, AlternativePath}
+use Rattle.kinds.specs.Entries.{entry, entries}
+use Rattle.kinds.proofs.Laws.Entries.{kind-number, entries-exact}
 use Rattle.kinds.proofs.Laws.Ascending.{entries-ascend}
 use Rattle.kinds.proofs.Laws.Few.{entries-few}
 use Rattle.listing.specs.Bytes.{bytes}
-use Rattle.listing.proofs.Laws.Puts.{length-bytes}
+use Rattle.listing.proofs.Laws.Puts.{bytes-none, bytes-more, length-bytes}
 use Rattle.striking.specs.Texts.{struckText}
+use Rattle.striking.proofs.Laws.Kept.{kept-rows, kept-exactly}
 use Rattle.striking.proofs.Laws.Struck.{struck-keeps}
 use Rattle.striking.proofs.Laws.Texts.{struck-parses}
 use Rattle.striking.proofs.Laws.Bytes.{struck-shorter}
-use Rattle.analyser.specs.Calls.{checkOf, linePart, givesPacket, witnessOf, outcomeOf, winnerOf, listOf, listWritten, strikeOf, strikeWritten}
-use Rattle.analyser.specs.Promises.{Reading, RefusedText, AcceptedText, Relations, ListPromise, WitnessPromise, StrikePromise, WinnerPromise, PackedPromise}
+use Rattle.analyser.specs.Calls.{checkOf, linePart, givesPacket, witnessOf, outcomeOf, winnerOf, listOf, listWritten, strikeOf, strikeWritten, packed}
+use Rattle.analyser.specs.Promises.{Reading, RefusedText, AcceptedText, KindNumbers, ListPromise, WitnessPromise, StrikePromise, WinnerPromise, PackedPromise}
 use Rattle.analyser.proofs.Laws.Calls.{line-row, witness-verdict, winner-no-row, winner-no-entity, winner-found, winner-row, winner-none}
 use Rattle.analyser.proofs.Laws.Outputs.{no-room, call-short, call-whole, list-told, list-refused}
 
 -- ---- demand 1
 
 pub reads : Reading
-reads = record { accepts = accepted-exactly; refuses = refused-otherwise }
+reads =
+    record {
+      accepts = accepted-exactly;
+      refuses = refused-otherwise;
+      lines = noLine-decides;
+      frames = frame-said;
+      kind-bytes = refl;
+      box = refl;
+      first-fault = refused-exactly;
+      faultless = λ text t h. accepted-faultless text t (accepted-exactly text t .1 h);
+    }
 
 pub refused-text : (text : List ℕ) (number line : ℕ) → parse text ≡ refusedBy number line → RefusedText text number line
 unfolding checkOf linePart witnessOf winnerOf listOf listWritten strikeOf strikeWritten
@@ -64,6 +75,7 @@ pub accepted-text : (text : List ℕ) (t : Table) → parse text ≡ returned t 
 unfolding checkOf linePart witnessOf listOf listWritten strikeOf strikeWritten
 accepted-text text t e = record {
   check = rw e;
+  parents = table-tree t (accepted-wellformed text t e);
   line = λ k h. line-row text t e k h .frame;
   no-row = λ k h. (rw e (rw (le-ltb _ _ h)), rw e (rw (le-ltb _ _ h)), λ a b p. winner-no-row text t e k a b p h);
   no-entity = λ k a b p h n. winner-no-entity text t e k a b p h n;
@@ -73,20 +85,41 @@ accepted-text text t e = record {
 
 -- ---- demand 2
 
-pub relations : Relations
-relations =
-    record {
-      entities = atOrAbove-decides;
-      between-entities = λ up tree e f. (entityRelation-holds up tree e f, one-entity-relation up tree e f);
-      technologies = dominates-decides;
-      between-technologies = λ t u. (technologyRelation-holds t u, one-technology-relation t u);
-      coefficients = atLeast-decides;
-      packets = holds-decides;
-      containment = contains-decides;
-      overlap = overlaps-decides;
-      groups = sameGroup-decides;
-      matching = matches-decides;
-    }
+-- Of each kind, what `Anomaly` says at its number.
+module _ (t : Table) where
+  of-one : (P : ℕ → Type 0) (i j : ℕ)
+      → ((i < length (t .rows)) × ((j ≡ 255) × P i)) ↔ ((i < length (t .rows)) × (j ≡ 255) × P i)
+  of-one P i j = (λ h. (h .0, h .1 .0, h .1 .1), λ h. (h .0, (h .1, h .2)))
+
+  of-two : (P : ℕ → ℕ → Type 0) (i j : ℕ)
+      → ((i < length (t .rows)) × ((j < length (t .rows)) × P i j)) ↔ ((i < length (t .rows)) × (j < length (t .rows)) × P i j)
+  of-two P i j = (λ h. (h .0, h .1 .0, h .1 .1), λ h. (h .0, (h .1, h .2)))
+
+  pub kind-numbers : KindNumbers t
+  kind-numbers =
+      record {
+        internal-loop = of-one (InternalLoop t);
+        out-of-place = of-one (OutOfPlace t);
+        non-enforceable = of-one (NonEnforceable t);
+        inadequate = of-one (Inadequate t);
+        shadowing = of-two (Shadowing t);
+        redundancy = of-two (Redundancy t);
+        exception = of-two (Exception t);
+        correlation = of-two (Correlation t);
+        inclusion = of-two (Inclusion t);
+        affinity = of-two (Affinity t);
+        contradiction = of-two (Contradiction t);
+        superfluous = of-one (Superfluous t);
+        skewed = of-two (Skewed t);
+        filtered = of-one (Filtered t);
+        layer-two = of-one (LayerTwo t);
+        asymmetric = of-one (Asymmetric t);
+        cyclic = of-one (Cyclic t);
+        monitorable = of-two (Monitorable t);
+        alternative-path = of-one (AlternativePath t);
+        dead = of-one (Dead t);
+        no-other = kind-number t;
+      }
 
 pub list-promise : (text : List ℕ) (t : Table) → parse text ≡ returned t → ListPromise text t
 unfolding listOf listWritten
@@ -97,7 +130,9 @@ list-promise text t e =
       written = λ out h.
           let w = call-whole bytes length entries out (parse text) t e (omega arith) in
           (w .0, w .1 ∙ ap (λ (n : ℕ). bytes (entries t) ++ drop n out) long);
+      three = (bytes-none, λ i kind j l. bytes-more (entry i kind j) l);
       exact = entries-exact t well;
+      kinds = kind-numbers t;
       ascending = entries-ascend t well;
       few = entries-few t well;
     }
@@ -106,7 +141,7 @@ list-promise text t e =
 
 pub witness-promise : (text : List ℕ) (t : Table) → parse text ≡ returned t → WitnessPromise text t
 witness-promise text t e = record {
-  listed = λ i h. let x = entries-exact t well i 20 noSecond in (λ m. x .0 m .1 .1, λ d. x .1 (h, (refl, d)));
+  listed = λ i h. let x = entries-exact t well i 20 255 in (λ m. x .0 m .1 .1, λ d. x .1 (h, (refl, d)));
   witnessed = λ i h.
       let v = verdicts t well i h .dead in
       let w = witness-verdict text t e i h in
@@ -130,13 +165,18 @@ witness-promise text t e = record {
 pub strike-promise : (text : List ℕ) (t : Table) → parse text ≡ returned t → StrikePromise text t
 unfolding strikeOf strikeWritten
 strike-promise text t e =
-    let kept = struck-keeps t (accepted-wellformed text t e) in
+    let well = accepted-wellformed text t e in
+    let keeps = struck-keeps t well in
     record {
       written = λ out h. call-whole (λ l. l) length (struckText text) out (parse text) t e h;
       shorter = struck-shorter text t e;
       taken = struck-parses text t e;
-      alive = kept .alive;
-      winners = kept .winners;
+      alive = keeps .alive;
+      all-kept = kept-exactly t well;
+      in-order = kept-rows t .ascending;
+      rows = refl;
+      others = (refl, refl, refl, refl);
+      winners = keeps .winners;
     }
 
 pub winner-promise : (text : List ℕ) (t : Table) → parse text ≡ returned t → WinnerPromise text t
@@ -163,9 +203,10 @@ winner-promise text t e = record {
 pub packed-promise : (text out : List ℕ) → PackedPromise text out
 packed-promise text out = record {
   count = λ n e. let w = list-told text out n e in
-      omega (arith, w .tells, entries-few (w .of) (accepted-wellformed text (w .of) (w .read)));
+      (ap packed e, omega (arith, w .tells, entries-few (w .of) (accepted-wellformed text (w .of) (w .read))));
   refusals = λ number line e. elim (list-refused text out number line e) [
-    | inl a ↦ omega (arith, refused-line text number line a)
-    | inr h ↦ omega (arith, no-room (bytes (entries (h .0))) out number (h .2), h .3)
+    | inl a ↦ let small = refused-line text number line a in (ap packed e, omega arith, omega arith, omega arith)
+    | inr h ↦ let short = no-room (bytes (entries (h .0))) out number (h .2) in
+        let none = h .3 in (ap packed e, omega arith, omega arith, omega arith)
   ];
 }

@@ -1,6 +1,7 @@
 -- `lainukesk_list` meets its contract: each case of the answer has its number. Assumes nothing.
 use borrow.Author.Needs.{needs}
-use mathlib.Core.Path.{_∙_}
+use mathlib.Core.Path.{_≡_, _∙_}
+use Rattle.base.specs.Answers.{refusedBy}
 use Rattle.base.proofs.Laws.Answers.{case-of}
 use Rattle.analyser.specs.Calls.{packed}
 use Rattle.analyser.specs.Views.{listAnswer}
@@ -15,7 +16,9 @@ counted c =
 refused : tie.Need-returns-2
 refused c =
     let l = c .before .before .before .before .before .before .list .ensures in
-    (c .packed-refusal .ensures ∙ case-of packed listAnswer (c .before .before .number .given .1) (l .0), l .1)
+    let told = c .before .before .number .given in
+    let whole : c .packed-refusal .result ≡ packed (refusedBy (told .0 .0) (told .0 .1 .0)) = c .packed-refusal .ensures in
+    (whole ∙ case-of packed listAnswer (told .1) (l .0), l .1)
 
 pub lainukesk-list-spec : {M : Type 1} → statement M
 lainukesk-list-spec =

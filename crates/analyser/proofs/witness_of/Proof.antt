@@ -4,10 +4,12 @@ use borrow.Author.Needs.{needs}
 use borrow.Author.Tests.{le-ltb}
 use native.Mathlib.Omega.{arith}
 use mathlib.Core.Path.{_≡_, sym, ap, _∙_}
+use Prim.Native.Nat.{_<_}
 use denote.Ref.{now}
 use Rattle.base.specs.Answers.{returned}
 use Rattle.reader.proofs.Laws.Readers.{table-sized}
 use Rattle.search.specs.Views.{resultOf as judged}
+use Rattle.verdicts.specs.Verdicts.{verdictIn}
 use Rattle.verdicts.proofs.Laws.Tables.{lent-verdict, lent-asked}
 use Rattle.analyser.specs.Calls.{witnessOf}
 use Rattle.analyser.proofs.Laws.Calls.{witness-verdict}
@@ -25,9 +27,15 @@ taken c = let r = c .before .read in accepted _ (table-sized (r .result) (r .ok)
 
 no-row : tie.Need-returns-2
 unfolding witnessOf
-no-row c = let a = taken (c .before) in rw (a .read) (rw (a .counted .rows, le-ltb _ _ (c .if2 .taken)))
+no-row c =
+    let a = taken (c .before) in
+    let r = c .before .before in
+    rw (a .read) (rw (a .counted .rows, le-ltb (r .before .before .args .k) (r .read .result .table .rows) (omega (arith, c .if2 .taken))))
 
 -- and has the row
+there : (c : tie.Else2) → c .before .before .before .before .args .k < c .before .before .read .result .table .rows
+there c = omega (arith, c .if2 .left)
+
 abbrev asked : tie.After-judge → tie.Else2
 asked c = c .before .before .before .before .before
 
@@ -36,9 +44,11 @@ verdict : (c : tie.After-judge) → let s = asked c .before .before .before .bef
 verdict c =
     let i = asked c in
     let a = taken (i .before) in
-    let h = i .if2 .left in
+    let t = i .before .before .read .result .table in
+    let h = there i in
     let n = a .counted .rows in
-    ap returned (c .judge .ensures ∙ lent-verdict _ (a .sized) (a .held) _ h)
+    let own : judged (c .judge .result) ≡ verdictIn (t .parents) (t .heads) (t .bounds) (i .before .before .before .before .args .k) = c .judge .ensures in
+    ap returned (own ∙ lent-verdict _ (a .sized) (a .held) _ h)
     ∙ sym (witness-verdict _ _ (a .read) _ (omega arith))
 
 pub witness-of-spec : {M : Type 1} → statement M
@@ -50,7 +60,7 @@ witness-of-spec =
     no-row
     (λ c κs. let e = c .before .before .before .before in
     let a = taken (e .before) in
-    lent-asked _ (a .sized) (a .held) (a .well) _ (e .if2 .left))
+    lent-asked _ (a .sized) (a .held) (a .well) _ (there e))
     (λ c. c .match .keys1)
     (λ c. c .match .keys2)
     (λ c. sym (ap (λ v. returned (judged v)) (c .before .p .given .1)) ∙ verdict (c .before .before .before))

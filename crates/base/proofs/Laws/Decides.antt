@@ -1,5 +1,5 @@
--- Tests that agree with their meanings, put together: a meaning said otherwise, order and equality of numbers, `not`, `and`, `or`, a test that
--- counts where another holds, one test or another.
+-- Tests that agree with their meanings, put together: a meaning said otherwise, order and equality of numbers, `not`, `and`, `or`, `not` of
+-- `and`, a test that counts where another holds, one test or another.
 -- Assumes nothing.
 use mathlib.Core.Path.{_≡_, refl, sym, _∙_}
 use mathlib.Core.Logic.{_⊎_, inl, inr}
@@ -44,6 +44,14 @@ decides-or false b d e = record {
   no = λ h s. elim s [ inl p ↦ d .no refl p | inr q ↦ e .no h q ];
 }
 
+-- Two tests do not hold together: one of them does not.
+pub decides-not-and : (a b : Bool) {P Q : Type 0} → Decides (not a) P → Decides (not b) Q → Decides (not (a && b)) (P ⊎ Q)
+decides-not-and true b d e = record {
+  yes = λ h. inr (e .yes h);
+  no = λ h s. elim s [ inl p ↦ d .no refl p | inr q ↦ e .no h q ];
+}
+decides-not-and false b d e = decides-true (inl (d .yes refl))
+
 -- The way from a meaning back to its test.
 pub decides-holds : (b : Bool) {P : Type 0} → Decides b P → P → b ≡ true
 decides-holds true d p = refl
@@ -52,6 +60,11 @@ decides-holds false d p = absurd (d .no refl p)
 pub decides-fails : (b : Bool) {P : Type 0} → Decides b P → (P → ⊥) → b ≡ false
 decides-fails true d n = absurd (n (d .yes refl))
 decides-fails false d n = refl
+
+-- The same of a test that is true where the meaning does not hold.
+pub not-holds : (b : Bool) {P : Type 0} → Decides (not b) P → P → b ≡ false
+not-holds true d p = absurd (d .no refl p)
+not-holds false d p = refl
 
 -- What is decided holds, or it doesn't.
 pub decided : (b : Bool) {P : Type 0} → Decides b P → P ⊎ (P → ⊥)

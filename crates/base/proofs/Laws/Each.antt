@@ -1,15 +1,16 @@
 -- What holds of each of a list: of two lists together, of one thing more; at a place, and two ways to tell each that agree; a test of each
--- number.
+-- number; one thing that fails a test of each.
 -- Assumes nothing.
 use Prim.Native.Nat.{ℕ, zero, suc, _+_, _<_}
-use mathlib.Core.Path.{_≡_}
-use mathlib.Core.Bool.{Bool}
-use mathlib.Core.List.{List, [], _∷_, _++_}
+use mathlib.Core.Path.{_≡_, refl}
+use mathlib.Core.Bool.{Bool, true, not, _&&_}
+use mathlib.Core.Logic.{inl, inr}
+use mathlib.Core.List.{List, [], _∷_, _++_, List·Memᴰ, List·Memᴰ·head, List·Memᴰ·tail, List·Memᴰ·not-nil, List·Memᴰ·cases-cons}
 use native.Mathlib.Omega.{arith}
 use lib.ListN.{length, getD}
 use Rattle.base.specs.Truths.{Decides}
 use Rattle.base.specs.Lists.{allPass}
-use Rattle.base.proofs.Laws.Decides.{decides-true, decides-as, decides-and}
+use Rattle.base.proofs.Laws.Decides.{decides-true, decides-false, decides-as, decides-and, decides-not-and}
 
 module _ {A : Type 1} where
   abbrev pub All : (A → Type 0) → List A → Type 0
@@ -48,3 +49,15 @@ module _ (f : ℕ → Bool) {P : ℕ → Type 0} (d : (x : ℕ) → Decides (f x
       all : P x → ((k : ℕ) → k < length xs → P (getD xs k 0)) → (k : ℕ) → k < length (x ∷ xs) → P (getD (x ∷ xs) k 0)
       all p h zero b = p
       all p h (suc k) b = h k (omega arith)
+
+-- A test of a whole list that asks one of each thing fails exactly where some thing is bad, that is, fails the test of each.
+module _ {A : Type 0} (whole : List A → Bool) (test : A → Bool) (none : whole [] ≡ true) (more : (x : A) (l : List A) → whole (x ∷ l) ≡ (test x && whole l))
+    {Bad : A → Type 0} (each : (x : A) → Decides (not (test x)) (Bad x)) where
+  pub one-fails : (l : List A) → Decides (not (whole l)) ((x : A) × List·Memᴰ x l × Bad x)
+  one-fails [] = rw none (decides-false (λ h. List·Memᴰ·not-nil (h .1)))
+  one-fails (x ∷ l) =
+      rw (more x l)
+      (decides-as
+      (λ s. elim s [ inl b ↦ (x, List·Memᴰ·head refl, b) | inr h ↦ (h .0, List·Memᴰ·tail (h .1), h .2) ])
+      (λ h. elim (List·Memᴰ·cases-cons (h .1)) [ inl e ↦ inl (rw (← e) (h .2)) | inr m ↦ inr (h .0, m, h .2) ])
+      (decides-not-and (test x) (whole l) (each x) (one-fails l)))

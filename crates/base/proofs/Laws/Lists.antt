@@ -1,7 +1,8 @@
 -- Laws of a list that is given by what stands at each place: its length, what stands at a place, that it goes by its places
 -- alone, one place more, and that a list is such a list of its own elements. Laws of what stands at a place: that below the
 -- length it does not go by the default, of a thing that is repeated, after a store at the place that follows those filled, and after a run
--- of stores, outside the run and in it. Two runs of stores, one after the other. A map, and the first of a list, place by place.
+-- of stores, outside the run and in it. Two runs of stores, one after the other. A map, and the first of a list, place by place. A list of no
+-- length.
 -- Assumes nothing.
 use mathlib.Core.Path.{_≡_, refl, sym, ap, subst, _∙_}
 use mathlib.Core.List.{List, [], _∷_, _++_, map}
@@ -125,3 +126,7 @@ module _ {A B : Type 0} where
 pub tabulate-take : (l : List ℕ) (n : ℕ) → n ≤ length l → tabulate (λ k. getD l k 0) n ≡ take n l
 tabulate-take l n h =
     tabulate-counted (λ k. getD l k 0) n (take n l) 0 (length-take-le n l h) (λ k b. sym (getD-take n l k 0 b))
+
+pub length-none : {A : Type 0} (l : List A) → length l ≡ 0 → l ≡ []
+length-none [] h = refl
+length-none (x ∷ l) h = absurd (omega arith)

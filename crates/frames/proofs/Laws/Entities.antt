@@ -4,10 +4,10 @@
 --   entity-lawful: what is read with an entity that is not refused keeps its rules
 -- Assumes nothing.
 use Prim.Native.Nat.{ℕ, _%_, _^_, _<_, _≤_}
-use mathlib.Core.Path.{_≡_, refl, _∙_}
+use mathlib.Core.Path.{_≡_, refl, sym, _∙_}
 use mathlib.Core.Logic.{_⊎_, inl, inr}
 use mathlib.Core.Bool.{Bool, true, false}
-use mathlib.Core.List.{List, [], _∷_, _++_, map}
+use mathlib.Core.List.{List, [], _∷_, _++_, map, List·Memᴰ·head, List·Memᴰ·not-nil, List·Memᴰ·eq-of-singleton}
 use native.Mathlib.Omega.{arith}
 use borrow.Author.Tests.{ltb-true, eqb-true, eqb-false}
 use lib.Dec.{eqb}
@@ -15,19 +15,21 @@ use lib.ListN.{length, getD, length-map, length-append, List·getD-append}
 use lib.Seq.{getD-append-seam}
 use Rattle.base.specs.Checks.{refusal}
 use Rattle.base.specs.Truths.{pick, Decides}
-use Rattle.base.proofs.Laws.Checks.{both, refusal-none, none-broken, one-kept}
-use Rattle.base.proofs.Laws.Decides.{decides-as, decides-ltb, decides-eqb, decides-and, decides-holds}
+use Rattle.base.proofs.Laws.Checks.{both, refusal-none, none-broken, one-kept, Breaks}
+use Rattle.base.proofs.Laws.Decides.{decides-as, decides-ltb, decides-eqb, decides-and, decides-holds, decides-fails}
 use Rattle.base.proofs.Laws.Members.{among-decides}
 use Rattle.policy.specs.Limits.{mostEntities}
 use Rattle.policy.specs.Model.{Entity, Table, noParent, noEntity, entityAt, layersOf}
 use Rattle.policy.specs.Views.{withEntity}
-use Rattle.policy.specs.Wellformed.{RootRule, OtherRule, EntityRule}
+use Rattle.policy.specs.Wellformed.{RootRule, OtherRule, EntityRule, IsEntity}
 use Rattle.frames.specs.Refusals.{badEntity}
+use Rattle.frames.specs.Faults.{ContentFault, entity-rule, no-root, no-entity, no-technology, low-above-high, null-above-0}
 use Rattle.frames.specs.Progress.{Progress}
 use Rattle.frames.specs.Entities.{otherLayers, rootRule, otherRule, entityRule, entityContent, entityKind}
+use Rattle.frames.proofs.Laws.Parts.{three-bytes}
 use Rattle.frames.proofs.Laws.Numbers.{own}
 use Rattle.base.proofs.Laws.Firsts.{below-more}
-use Rattle.frames.proofs.Laws.Growing.{EntitiesKept, Growing, no-filters, no-rows, no-floor, Lawful}
+use Rattle.frames.proofs.Laws.Growing.{Sequenced, Growing, no-floor, Lawful}
 
 -- ---- the rules of its content
 
@@ -106,15 +108,12 @@ module _ (t : Table) (e : Entity) where
         mask = rw (before k h) (o .mask);
       })
 
-  entities-more : EntitiesKept t → length (t .entities) < mostEntities → EntityRule (withEntity e t) (length (t .entities))
-      → EntitiesKept (withEntity e t)
-  entities-more g few new =
-      record {
-        few = simp length-append (omega arith);
-        each = λ k h.
-            below-more (EntityRule (withEntity e t)) (length (t .entities)) (λ j b. entity-before j b (g .each j b)) new k
-            (omega (arith, length-append (t .entities) (e ∷ [])));
-      }
+  -- With it, each keeps its rules.
+  each-entity : ((k : ℕ) → IsEntity t k → EntityRule t k) → EntityRule (withEntity e t) (length (t .entities))
+      → (k : ℕ) → IsEntity (withEntity e t) k → EntityRule (withEntity e t) k
+  each-entity each new k h =
+      below-more (EntityRule (withEntity e t)) (length (t .entities)) (λ j b. entity-before j b (each j b)) new k
+      (omega (arith, length-append (t .entities) (e ∷ [])))
 
 module _ (p : Progress) (e : Entity) (m : entityKind .placed p e ≡ true) where
   pub no-caps : length (p .table .caps) ≡ 0
@@ -123,29 +122,61 @@ module _ (p : Progress) (e : Entity) (m : entityKind .placed p e ≡ true) where
   pub few-entities : length (p .table .entities) < mostEntities
   few-entities = ltb-true _ _ (both (eqb (length (p .table .caps)) 0) _ m .1)
 
-  pub early-entity : Growing p → p .floored ≡ 0
-  early-entity g = let none = no-caps in no-floor g (omega arith)
+  pub early-entity : Sequenced p → p .floored ≡ 0
+  early-entity q = let none = no-caps in no-floor q (omega arith)
+
+  sequenced-entity : Sequenced p → Sequenced (entityKind .grown e p)
+  sequenced-entity q =
+      let none = no-caps in
+      let few = few-entities in
+      record {
+        few-entities = simp length-append (omega arith);
+        few-caps = q .few-caps;
+        entities-first = λ h. absurd (omega arith);
+        one-floor = q .one-floor;
+        caps-first = q .caps-first;
+        floor-first = q .floor-first;
+        few-filters = q .few-filters;
+        few-rows = q .few-rows;
+      }
 
   growing-entity : Growing p → refusal (entityContent (layersOf (p .table)) e) ≡ 0 → Growing (entityKind .grown e p)
   growing-entity g c =
       let t = p .table in
-      let none = no-caps in
       let few = few-entities in
-      let empty = g .early (early-entity g) in
+      let empty = g .sequenced .floor-first (early-entity (g .sequenced)) in
       record {
-        entities = entities-more t e (g .entities) few (entity-kept t e (omega arith) c);
-        caps = record { few = g .caps .few; each = g .caps .each; after = λ h. absurd (omega arith) };
+        sequenced = sequenced-entity (g .sequenced);
+        entity = each-entity t e (g .entity) (entity-kept t e (omega arith) c);
+        cap = g .cap;
         floor = g .floor;
-        early = g .early;
-        filters = no-filters (withEntity e t) (empty .0);
-        rows = no-rows (withEntity e t) (empty .1);
+        filter = λ k h. absurd (omega arith);
+        row = λ k h. absurd (omega arith);
       }
+
+entity-breaks : (t : Table) (e : Entity) → length (t .entities) ≤ mostEntities → (n : ℕ) → ContentFault t (entityKind .judged e) n
+    → Breaks n (entityContent (layersOf t) e)
+entity-breaks t e few n (entity-rule x m h) =
+    let same : x ≡ e = List·Memᴰ·eq-of-singleton m in
+    let h′ : EntityRule (withEntity e t) (length (t .entities)) → ⊥ = rw same at h in
+    inl (decides-fails (entityRule (layersOf t) e) (entity-decides (withEntity e t) (t .entities) [] e refl (omega arith)) h′, omega arith)
+entity-breaks t e few n (no-root x m h) = absurd (List·Memᴰ·not-nil m)
+entity-breaks t e few n (no-entity x m h) = absurd (List·Memᴰ·not-nil m)
+entity-breaks t e few n (no-technology u m h) = absurd (List·Memᴰ·not-nil m)
+entity-breaks t e few n (low-above-high r m h) = absurd (List·Memᴰ·not-nil m)
+entity-breaks t e few n (null-above-0 c m k h) = absurd (List·Memᴰ·not-nil m)
 
 pub entity-lawful : Lawful (λ e. Unit {0}) entityKind
 entity-lawful =
     record {
+      said = λ bs h. sym (three-bytes bs (eqb-true (length bs) 3 h));
+      read = λ bs e h. (rw h, rw h);
       in-range = λ l h. tt;
       numbered = λ t e. omega arith;
+      rising = λ t e. omega arith;
+      faults = λ t e few. ((λ b. entity-rule e (List·Memᴰ·head refl) (entity-decides (withEntity e t) (t .entities) [] e refl (omega arith) .no b)), tt);
+      breaks = entity-breaks;
       one-line = λ p e m. simp length-append (omega arith);
+      sequenced = sequenced-entity;
       growing = λ p e i g m c. growing-entity p e m g c;
     }

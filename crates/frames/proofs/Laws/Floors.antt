@@ -2,21 +2,21 @@
 --   early-floor: the floor comes once
 --   floor-lawful: what is read with a floor that is not refused keeps its rules
 -- Assumes nothing.
-use mathlib.Core.Path.{_≡_}
+use mathlib.Core.Path.{_≡_, refl, sym, ap, _∙_}
 use mathlib.Core.Bool.{true}
 use native.Mathlib.Omega.{arith}
-use borrow.Author.Tests.{eqb-true}
+use borrow.Author.Tests.{eqb-true, eq-eqb}
 use lib.Dec.{eqb}
 use lib.ListN.{length}
 use Rattle.base.proofs.Laws.Checks.{both}
 use Rattle.policy.specs.Limits.{technologies}
 use Rattle.policy.specs.Model.{Coefficients}
-use Rattle.policy.specs.Views.{withFloor}
 use Rattle.policy.specs.Wellformed.{CoefficientsRule}
+use Rattle.policy.proofs.Laws.Changed.{entity-changed}
 use Rattle.frames.specs.Progress.{Progress}
 use Rattle.frames.specs.Floors.{floorKind}
-use Rattle.frames.proofs.Laws.Parts.{coefficients-rule}
-use Rattle.frames.proofs.Laws.Growing.{Growing, no-filters, no-rows, entities-changed, Lawful}
+use Rattle.frames.proofs.Laws.Parts.{coefficients-rule, three-bytes}
+use Rattle.frames.proofs.Laws.Growing.{Sequenced, Growing, nothing-faulty, Lawful}
 
 module _ (p : Progress) (c : Coefficients) (m : floorKind .placed p c ≡ true) where
   six-caps : length (p .table .caps) ≡ technologies
@@ -25,23 +25,44 @@ module _ (p : Progress) (c : Coefficients) (m : floorKind .placed p c ≡ true) 
   pub early-floor : p .floored ≡ 0
   early-floor = eqb-true _ _ (both (eqb (length (p .table .caps)) technologies) _ m .1)
 
+  sequenced-floor : Sequenced p → Sequenced (floorKind .grown c p)
+  sequenced-floor q =
+      record {
+        few-entities = q .few-entities;
+        few-caps = q .few-caps;
+        entities-first = q .entities-first;
+        one-floor = omega arith;
+        caps-first = λ h. six-caps;
+        floor-first = λ h. absurd (omega arith);
+        few-filters = q .few-filters;
+        few-rows = q .few-rows;
+      }
+
   growing-floor : CoefficientsRule c → Growing p → Growing (floorKind .grown c p)
   growing-floor r g =
-      let empty = g .early early-floor in
+      let empty = g .sequenced .floor-first early-floor in
       record {
-        entities = entities-changed (g .entities);
-        caps = g .caps;
-        floor = record { once = omega arith; after = λ h. six-caps; rule = λ h. r };
-        early = λ h. absurd (omega arith);
-        filters = no-filters (withFloor c (p .table)) (empty .0);
-        rows = no-rows (withFloor c (p .table)) (empty .1);
+        sequenced = sequenced-floor (g .sequenced);
+        entity = λ k h. entity-changed (g .entity k h);
+        cap = g .cap;
+        floor = λ h. r;
+        filter = λ k h. absurd (omega arith);
+        row = λ k h. absurd (omega arith);
       }
 
 pub floor-lawful : Lawful CoefficientsRule floorKind
 floor-lawful =
     record {
+      said = λ bs h. (refl, sym (three-bytes bs (eqb-true (length bs) 3 h)));
+      read = λ bs c h.
+          let long : length bs ≡ 3 = ap length (h .1) ∙ h .0 in
+          (eq-eqb (length bs) 3 long, three-bytes bs long ∙ h .1);
       in-range = λ l h. coefficients-rule 0 l;
       numbered = λ t c. tt;
+      rising = λ t c. tt;
+      faults = λ t c few. tt;
+      breaks = λ t c few n h. absurd (nothing-faulty t n h);
       one-line = λ p c m. let e = early-floor p c m in omega arith;
+      sequenced = sequenced-floor;
       growing = λ p c r g m k. growing-floor p c m r g;
     }

@@ -1,97 +1,104 @@
 -- What holds of everything that has been read so far:
---   Growing, growing-nothing: each thing that has been read keeps its rules, and stands in its place of the sequence
---   no-filters, no-rows: where there is none
---   entities-changed: rules that only the entities count for
+--   Sequenced: what has been read stands in its place of the sequence
+--   Growing, growing-nothing: besides, each thing that has been read keeps its rules
+--   no-floor: before the sixth cap there is no floor
+--   nothing-faulty: what is not judged has no fault
 --   Lawful: what a kind of frame owes, so that what has been read with it keeps them
 -- Assumes nothing.
 use Prim.Native.Nat.{ℕ, suc, _<_, _≤_}
 use mathlib.Core.Path.{_≡_, refl}
 use mathlib.Core.Bool.{true}
-use mathlib.Core.List.{List, []}
+use mathlib.Core.List.{List, [], List·Memᴰ·not-nil}
 use native.Mathlib.Decide.{decLt}
 use native.Mathlib.Omega.{arith}
 use lib.ListN.{length, getD}
 use Rattle.base.specs.Checks.{refusal}
-use Rattle.base.proofs.Laws.Checks.{Numbered}
+use Rattle.base.proofs.Laws.Checks.{Numbered, Rising, Faults, Breaks}
 use Rattle.hex.specs.Lines.{bytesOf}
 use Rattle.policy.specs.Limits.{mostEntities, mostFilters, mostRows, technologies}
-use Rattle.policy.specs.Model.{Coefficients, Filter, Row, Table, noFilter, rowAt}
-use Rattle.policy.proofs.Laws.Changed.{changed, entity-changed}
+use Rattle.policy.specs.Model.{Table, noFilter, rowAt}
 use Rattle.policy.specs.Wellformed.{EntityRule, IsEntity, CoefficientsRule, FilterRule, RowRule}
-use Rattle.frames.specs.Refusals.{protectedNull}
+use Rattle.frames.specs.Refusals.{outOfSequence, protectedNull}
+use Rattle.frames.specs.Faults.{ContentFault, entity-rule, no-root, no-entity, no-technology, low-above-high, null-above-0, nothingJudged}
 use Rattle.frames.specs.Progress.{Progress, nothing, linesRead, FrameKind}
 
 -- ---- what has been read
 
-pub record EntitiesKept (t : Table) : Type 0 where
-  pub few : length (t .entities) ≤ mostEntities
-  pub each : (k : ℕ) → IsEntity t k → EntityRule t k
+-- How many of each there are so far, each after what it follows in the sequence.
+pub record Sequenced (p : Progress) : Type 0 where
+  pub few-entities : length (p .table .entities) ≤ mostEntities
+  pub few-caps : length (p .table .caps) ≤ technologies
+  pub entities-first : 0 < length (p .table .caps) → 1 ≤ length (p .table .entities)
+  pub one-floor : p .floored ≤ 1
+  pub caps-first : p .floored ≡ 1 → length (p .table .caps) ≡ technologies
+  pub floor-first : p .floored ≡ 0 → (length (p .table .filters) ≡ 0) × (length (p .table .rows) ≡ 0)
+  pub few-filters : length (p .table .filters) ≤ mostFilters
+  pub few-rows : length (p .table .rows) ≤ mostRows
 
-pub record CapsKept (entities : ℕ) (caps : List Coefficients) : Type 0 where
-  pub few : length caps ≤ technologies
-  pub each : (k : ℕ) → k < length caps → CoefficientsRule (getD caps k [])
-  pub after : 0 < length caps → 1 ≤ entities
-
-pub record FloorKept (caps floored : ℕ) (floor : Coefficients) : Type 0 where
-  pub once : floored ≤ 1
-  pub after : floored ≡ 1 → caps ≡ technologies
-  pub rule : floored ≡ 1 → CoefficientsRule floor
-
-pub record FiltersKept (t : Table) : Type 0 where
-  pub few : length (t .filters) ≤ mostFilters
-  pub each : (k : ℕ) → k < length (t .filters) → FilterRule t (getD (t .filters) k noFilter)
-
-pub record RowsKept (t : Table) : Type 0 where
-  pub few : length (t .rows) ≤ mostRows
-  pub each : (i : ℕ) → i < length (t .rows) → RowRule t (rowAt t i)
-
+-- They keep the sequence, and each keeps its rules.
 pub record Growing (p : Progress) : Type 0 where
-  pub entities : EntitiesKept (p .table)
-  pub caps : CapsKept (length (p .table .entities)) (p .table .caps)
-  pub floor : FloorKept (length (p .table .caps)) (p .floored) (p .table .floor)
-  -- filters and rows come after the floor
-  pub early : p .floored ≡ 0 → (length (p .table .filters) ≡ 0) × (length (p .table .rows) ≡ 0)
-  pub filters : FiltersKept (p .table)
-  pub rows : RowsKept (p .table)
-
-pub no-filters : (t : Table) → length (t .filters) ≡ 0 → FiltersKept t
-no-filters t e = record { few = omega arith; each = λ k h. absurd (omega arith) }
-
-pub no-rows : (t : Table) → length (t .rows) ≡ 0 → RowsKept t
-no-rows t e = record { few = omega arith; each = λ k h. absurd (omega arith) }
+  pub sequenced : Sequenced p
+  pub entity : (k : ℕ) → IsEntity (p .table) k → EntityRule (p .table) k
+  pub cap : (k : ℕ) → k < length (p .table .caps) → CoefficientsRule (getD (p .table .caps) k [])
+  pub floor : p .floored ≡ 1 → CoefficientsRule (p .table .floor)
+  pub filter : (k : ℕ) → k < length (p .table .filters) → FilterRule (p .table) (getD (p .table .filters) k noFilter)
+  pub row : (i : ℕ) → i < length (p .table .rows) → RowRule (p .table) (rowAt (p .table) i)
 
 pub growing-nothing : Growing nothing
 growing-nothing =
     record {
-      entities = record { few = omega arith; each = λ k h. absurd (omega arith) };
-      caps = record { few = omega arith; each = λ k h. absurd (omega arith); after = λ h. absurd (omega arith) };
-      floor = record { once = omega arith; after = λ h. absurd (omega arith); rule = λ h. absurd (omega arith) };
-      early = λ h. (refl, refl);
-      filters = no-filters (nothing .table) refl;
-      rows = no-rows (nothing .table) refl;
+      sequenced =
+          record {
+            few-entities = omega arith;
+            few-caps = omega arith;
+            entities-first = λ h. absurd (omega arith);
+            one-floor = omega arith;
+            caps-first = λ h. absurd (omega arith);
+            floor-first = λ h. (refl, refl);
+            few-filters = omega arith;
+            few-rows = omega arith;
+          };
+      entity = λ k h. absurd (omega arith);
+      cap = λ k h. absurd (omega arith);
+      floor = λ h. absurd (omega arith);
+      filter = λ k h. absurd (omega arith);
+      row = λ k h. absurd (omega arith);
     }
 
 -- Before the sixth cap there is no floor.
-pub no-floor : {p : Progress} → Growing p → length (p .table .caps) < technologies → p .floored ≡ 0
-no-floor {p} g h =
-    let f = g .floor .once in
-    elim (decLt (p .floored) 1) [ yes j ↦ omega arith | no j ↦ absurd (omega (arith, g .floor .after (omega arith))) ]
+pub no-floor : {p : Progress} → Sequenced p → length (p .table .caps) < technologies → p .floored ≡ 0
+no-floor {p} q h =
+    let f = q .one-floor in
+    elim (decLt (p .floored) 1) [ yes j ↦ omega arith | no j ↦ absurd (omega (arith, q .caps-first (omega arith))) ]
 
 -- ---- a kind of frame
 
--- A table with all but its entities changed keeps their rules.
-pub entities-changed : {t : Table} {caps : List Coefficients} {floor : Coefficients} {filters : List Filter} {rows : List Row}
-    → EntitiesKept t → EntitiesKept (changed t caps floor filters rows)
-entities-changed g = record { few = g .few; each = λ k h. entity-changed (g .each k h) }
+-- What is not judged has no fault.
+pub nothing-faulty : (t : Table) (n : ℕ) → ContentFault t nothingJudged n → ⊥
+nothing-faulty t n (entity-rule e m h) = List·Memᴰ·not-nil m
+nothing-faulty t n (no-root e m h) = List·Memᴰ·not-nil m
+nothing-faulty t n (no-entity e m h) = List·Memᴰ·not-nil m
+nothing-faulty t n (no-technology u m h) = List·Memᴰ·not-nil m
+nothing-faulty t n (low-above-high r m h) = List·Memᴰ·not-nil m
+nothing-faulty t n (null-above-0 c m k h) = List·Memᴰ·not-nil m
 
 -- What a kind owes, of values whose numbers are in range.
 pub record Lawful {A : Type 0} (InRange : A → Type 0) (k : FrameKind A) : Type 0 where
+  -- bytes of the kind's length say the value that is read from them, and what says a value has that length and is read so
+  pub said : (bs : List ℕ) → k .long bs ≡ true → k .says bs (k .value bs)
+  pub read : (bs : List ℕ) (v : A) → k .says bs v → (k .long bs ≡ true) × (k .value bs ≡ v)
   -- the numbers of a line are
   pub in-range : (l : List ℕ) → k .long (bytesOf l) ≡ true → InRange (k .value (bytesOf l))
   -- refusals have the numbers up to 7
   pub numbered : (t : Table) (v : A) → Numbered protectedNull (k .content t v)
+  -- its conditions stand by ascending number, each broken one is the fault of its number, and each fault breaks one, with no larger number
+  pub rising : (t : Table) (v : A) → Rising outOfSequence (k .content t v)
+  pub faults : (t : Table) (v : A) → length (t .entities) ≤ mostEntities → Faults (ContentFault t (k .judged v)) (k .content t v)
+  pub breaks : (t : Table) (v : A) → length (t .entities) ≤ mostEntities → (n : ℕ) → ContentFault t (k .judged v) n → Breaks n (k .content t v)
   -- a frame is one line
   pub one-line : (p : Progress) (v : A) → k .placed p v ≡ true → linesRead (k .grown v p) ≡ suc (linesRead p)
-  -- what has been read keeps its rules with a frame that is not refused
+  -- what has been read keeps the sequence with a frame that has its place,
+  pub sequenced : (p : Progress) (v : A) → k .placed p v ≡ true → Sequenced p → Sequenced (k .grown v p)
+  -- and the rules with a frame that is not refused
   pub growing : (p : Progress) (v : A) → InRange v → Growing p → k .placed p v ≡ true → refusal (k .content (p .table) v) ≡ 0
       → Growing (k .grown v p)

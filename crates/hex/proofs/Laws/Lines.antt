@@ -5,19 +5,25 @@
 --   allDigits-next, allDigits-stop: whether the characters from a place on are digits, by the first of them
 --   line-length, bytesOf-line: a line has a first byte
 --   line-digits, feed-no-digit: a line is of digits, and a line feed is none
+--   noLine-decides: the test of lines is false exactly of what is no line
 -- Assumes nothing.
 use mathlib.Core.Path.{_≡_, refl}
-use mathlib.Core.Bool.{true, false, not, _&&_, false≢true, and-eq-true-iff}
-use mathlib.Core.List.{List, [], _∷_}
-use Prim.Native.Nat.{ℕ, zero, suc, _+_, _*_, _/_, _%_, _<_, _≤_}
+use mathlib.Core.Bool.{Bool, true, false, not, _&&_, false≢true, and-eq-true-iff, Bool·not-not}
+use mathlib.Core.Logic.{_⊎_, inl, inr}
+use mathlib.Core.List.{List, [], _∷_, List·Memᴰ}
+use Prim.Native.Nat.{ℕ, zero, suc, _+_, _-_, _*_, _/_, _%_, _<_, _≤_}
 use native.Mathlib.Omega.{arith}
 use native.Mathlib.Numerals.{add-one}
 use borrow.Author.Tests.{lt-ltb, le-ltb}
-use lib.Dec.{eqb}
+use lib.Dec.{eqb, leb, ltb}
 use lib.Seq.{drop-cons}
 use lib.ListN.{length, getD, take, drop}
-use Rattle.hex.specs.Digits.{digitValue, isDigit, byteOf}
-use Rattle.hex.specs.Lines.{allDigits, isLine, bytesOf}
+use Rattle.base.specs.Truths.{pick, Decides}
+use Rattle.base.proofs.Laws.Decides.{decides-true, decides-false, decides-as, decides-leb, decides-eqb, decides-not, decides-and, decides-not-and}
+use Rattle.base.proofs.Laws.Each.{one-fails}
+use Rattle.base.proofs.Laws.Lists.{length-none}
+use Rattle.hex.specs.Digits.{Digit, digitValue, isDigit, byteOf}
+use Rattle.hex.specs.Lines.{NoLine, empty, other, odd, allDigits, isLine, bytesOf}
 
 -- One place more is two characters more.
 double-suc : (i : ℕ) → 2 * suc i ≡ suc (suc (2 * i))
@@ -93,3 +99,42 @@ pub bytesOf-line : (l : List ℕ) → isLine l ≡ true → bytesOf l ≡ getD (
 bytesOf-line [] h = absurd (omega (arith, line-length [] h))
 bytesOf-line (a ∷ []) h = absurd (omega (arith, line-length (a ∷ []) h))
 bytesOf-line (a ∷ b ∷ l) h = refl
+
+-- ---- what is no line
+
+digit-decides : (c : ℕ) → Decides (isDigit c) (Digit c)
+unfolding digitValue
+digit-decides c =
+    go (leb 48 c && leb c 57) (leb 65 c && leb c 70) (decides-and _ _ (decides-leb 48 c) (decides-leb c 57))
+    (decides-and _ _ (decides-leb 65 c) (decides-leb c 70))
+  where
+    go : (a b : Bool) → Decides a ((48 ≤ c) × (c ≤ 57)) → Decides b ((65 ≤ c) × (c ≤ 70))
+        → Decides (ltb (pick a (c - 48) (pick b (c - 55) 16)) 16) (Digit c)
+    go true b d e = let h = d .yes refl in rw (lt-ltb (c - 48) 16 (omega arith)) (decides-true (inl h))
+    go false true d e = let h = e .yes refl in rw (lt-ltb (c - 55) 16 (omega arith)) (decides-true (inr h))
+    go false false d e = decides-false (λ s. elim s [ inl h ↦ d .no refl h | inr h ↦ e .no refl h ])
+
+-- Some character is no digit.
+abbrev Other : List ℕ → Type 0
+Other l = (c : ℕ) × List·Memᴰ c l × (Digit c → ⊥)
+
+other-decides : (l : List ℕ) → Decides (not (allDigits l)) (Other l)
+other-decides = one-fails allDigits isDigit refl (λ c l. refl) (λ c. decides-not (isDigit c) (digit-decides c))
+
+pub noLine-decides : (l : List ℕ) → Decides (not (isLine l)) (NoLine l)
+unfolding isLine
+noLine-decides l =
+    let even = eqb (length l % 2) 0 in
+    decides-as told untold
+    (decides-not-and (not (eqb (length l) 0)) (even && allDigits l) (rw (Bool·not-not (eqb (length l) 0)) (decides-eqb (length l) 0))
+    (decides-not-and even (allDigits l) (decides-not even (decides-eqb (length l % 2) 0)) (other-decides l)))
+  where
+    told : (length l ≡ 0) ⊎ ((length l % 2 ≡ 0 → ⊥) ⊎ Other l) → NoLine l
+    told (inl e) = empty (length-none l e)
+    told (inr (inl n)) = odd (omega (arith, n))
+    told (inr (inr h)) = other (h .0) (h .1) (h .2)
+
+    untold : NoLine l → (length l ≡ 0) ⊎ ((length l % 2 ≡ 0 → ⊥) ⊎ Other l)
+    untold (empty e) = inl (rw e)
+    untold (other c m n) = inr (inr (c, m, n))
+    untold (odd e) = inr (inl (λ z. omega arith))

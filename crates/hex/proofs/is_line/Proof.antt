@@ -1,7 +1,7 @@
 -- `hex::is_line` meets its contract: the loop's invariant is that `isLine` of the line is `allDigits` of its characters from `i`
 -- on, the measure is what is left of the length, and a character that is no digit decides. Assumes nothing.
 use mathlib.Core.Path.{_≡_, _∙_, sym, ap}
-use Prim.Native.Nat.{ℕ, _-_, _<_, _≤_}
+use Prim.Native.Nat.{ℕ, _-_, _%_, _<_, _≤_}
 use native.Mathlib.Omega.{arith}
 use borrow.Author.Needs.{needs}
 use borrow.Author.Tests.{eq-eqb, ne-eqb}
@@ -26,7 +26,9 @@ returns c = simp (eq-eqb _ _ (c .if1 .taken))
 
 returns-2 : tie.Need-returns-2 Inv-loop μ-loop
 unfolding isLine
-returns-2 c = simp (ne-eqb _ _ (c .before .if1 .left), ne-eqb _ _ (c .if2 .taken))
+returns-2 c =
+    let odd : (length (now (c .before .before .args .line)) % 2 ≡ 0 → ⊥) = c .if2 .taken in
+    simp (ne-eqb _ _ (c .before .if1 .left), ne-eqb _ _ odd)
 
 loop-holds : tie.Need-loop-holds Inv-loop μ-loop
 unfolding isLine

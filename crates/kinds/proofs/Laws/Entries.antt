@@ -1,4 +1,8 @@
--- The entries of a well-formed table are exactly its anomalies.
+-- The entries of a well-formed table are exactly its anomalies:
+--   gather-of, gather-next, gather-end, gather-same: lists one after another
+--   kind-number: an anomaly's kind is one of the twenty
+--   listed-of, entries-rows: what an entry of the list is, and of which rows
+--   entries-exact: no entry more, none less
 -- Assumes nothing.
 use Prim.Native.Nat.{ℕ, zero, suc, _+_, _≤_, _<_}
 use mathlib.Core.Path.{_≡_, refl, sym, ap, subst}
@@ -63,6 +67,9 @@ not-0 : (t : Table) (i kind j : ℕ) → Anomaly t i kind j → 0 < kind
 not-0 t i zero j h = absurd (h .1)
 not-0 t i (suc kind) j h = omega arith
 
+pub kind-number : (t : Table) (i kind j : ℕ) → Anomaly t i kind j → (0 < kind) × (kind ≤ kindCount)
+kind-number t i kind j h = let b = small t i j numbered kind (h .1) in (not-0 t i kind j h, omega arith)
+
 -- The second number is a row's, or FF.
 second : (t : Table) (i j : ℕ) (k : Kind) → Says t k i j → IsRow t j ⊎ (j ≡ noSecond)
 second t i j noKind h = absurd h
@@ -105,8 +112,7 @@ module _ (t : Table) where
                 | inr a ↦ anomaly-at (r .0) (k .0) noSecond (listed-of (r .0) (k .0) noSecond e a)
               ],
           λ h.
-              let b = small t i j numbered kind (h .1) in
-              let z = not-0 t i kind j h in
+              let b = kind-number t i kind j h in
               gather-in e (ofRow t) n 0 i (omega arith) (omega (arith, h .0))
               (gather-in e (ofKind t i) kindCount 1 kind (omega arith) (omega arith)
               (elim (second t i j (kindAt kind) (h .1)) [

@@ -3,11 +3,13 @@ use borrow.Author.Needs.{needs}
 use Prim.Native.Nat.{ℕ, _*_, _≤_}
 use mathlib.Core.Path.{_≡_, sym, _∙_}
 use native.Mathlib.Omega.{arith}
+use denote.Ref.{now}
 use lib.ListN.{length, replicate, length-replicate}
 use lib.Seq.{length-take-le}
 use Rattle.kinds.specs.Entries.{mostEntries}
 use Rattle.listing.specs.Bytes.{entryBytes}
 use Rattle.analyser.proofs.Laws.Outputs.{count-fits}
+use Rattle.printing.specs.Printed.{refusalLine, Prints}
 use Rattle.printing.proofs.Laws.Printed.{prints-other}
 use Rattle.printing.proofs.Laws.Answers.{rowlist-counted, rowlist-refused}
 use Rattle.printing.proofs.put_list.Statement.{statement}
@@ -41,9 +43,10 @@ refused c =
     let p = c .before .before in
     let k = p .before .before .before in
     let l = k .before .before .before in
-    prints-other
-    (rowlist-refused _ _ (l .list .last .1 .0) _ zeros (l .list .ensures .0) _ _ (k .number .given .1))
-    (p .put-refusal .ensures)
+    let out = l .before .before .before .before .args .out in
+    let told = k .number .given in
+    let line : Prints (refusalLine (told .0 .0) (told .0 .1 .0)) (now out) (p .put-refusal .last .1 .1 .0) (p .put-refusal .result) = p .put-refusal .ensures in
+    prints-other (rowlist-refused _ _ (l .list .last .1 .0) _ zeros (l .list .ensures .0) _ _ (told .1)) line
 
 pub put-list-spec : {M : Type 1} → statement M
 put-list-spec =

@@ -16,17 +16,19 @@ use lib.Seq.{append-snoc}
 use Rattle.hex.specs.Lines.{isLine, bytesOf}
 use Rattle.policy.specs.Model.{Table}
 use Rattle.base.specs.Checks.{refusal}
+use Rattle.base.proofs.Laws.Lists.{length-none}
 use Rattle.reader.specs.Lines.{linesOf, restOf}
-use Rattle.reader.specs.Frames.{Frame, frameOf}
+use Rattle.reader.specs.Frames.{Frame, aFrame, noFrame, frameOf}
 use Rattle.base.specs.Answers.{Answer, returned, refusedBy}
 use Rattle.frames.specs.Progress.{Progress, nothing}
-use Rattle.frames.proofs.Laws.Growing.{Growing, growing-nothing}
+use Rattle.frames.proofs.Laws.Growing.{Sequenced, Growing, growing-nothing}
 use Rattle.reader.specs.States.{State, reading, refused, checks, grown, takeFrame, step, run, finish, parse}
 use Rattle.reader.specs.Rules.{KeepsRules}
 use Rattle.reader.proofs.Laws.States.{run-refused}
 use Rattle.reader.proofs.Laws.Runs.{pick-either}
-use Rattle.reader.proofs.Laws.Wellformed.{growing-frame, in-range, accepted-wellformed}
-use Rattle.reader.proofs.Laws.Sequence.{empty, framesSoFar, so-far-more, Leads, leads-table}
+use Rattle.reader.proofs.Laws.Wellformed.{kept, never-none, growing-frame, in-range, accepted-wellformed}
+use Rattle.reader.proofs.Laws.Sequence.{framesSoFar, so-far-more}
+use Rattle.reader.proofs.Laws.Leads.{Leads, Taken, rules-lead}
 
 -- The frame of a line.
 abbrev pub lineFrame : List ℕ → Frame
@@ -49,6 +51,12 @@ stays-refused k n m q ls e =
     let z : _≡_ {A = ℕ} 0 1 = cc in
     omega arith
 
+-- One frame more that is not refused.
+pub so-far-taken : (p : Progress) (f : Frame) → Sequenced p → refusal (checks p f) ≡ 0 → framesSoFar (grown p f) ≡ framesSoFar p ++ (f ∷ [])
+unfolding grown
+so-far-taken p (aFrame k v) q z = so-far-more p k v q (kept p k v z .0)
+so-far-taken p noFrame q z = absurd (never-none p z)
+
 -- One line more, before the others.
 told-more : (p : Progress) (l : List ℕ) (ls : List (List ℕ)) (q : Progress) → isLine l ≡ true → Growing p
     → refusal (checks p (lineFrame l)) ≡ 0 → Told (grown p (lineFrame l)) ls q → Told p (l ∷ ls) q
@@ -56,7 +64,7 @@ told-more p l ls q i g z told =
     record {
       digits = λ m h. elim (List·Memᴰ·cases-cons h) [ inl e ↦ rw e i | inr k ↦ told .digits m k ];
       frames = sym (append-snoc (framesSoFar p) (lineFrame l) (map lineFrame ls))
-          ∙ ap (λ fs. fs ++ map lineFrame ls) (sym (so-far-more p (lineFrame l) (in-range l) g z)) ∙ told .frames;
+          ∙ ap (λ fs. fs ++ map lineFrame ls) (sym (so-far-taken p (lineFrame l) (g .sequenced) z)) ∙ told .frames;
     }
 
 run-told : (ls : List (List ℕ)) (n m : ℕ) (p q : Progress) → Growing p → run (reading n p) ls ≡ reading m q → Told p ls q
@@ -96,7 +104,7 @@ accepted-keeps text t e =
     let x : Ending s (restOf text) (returned t) = rw e at (ending s (restOf text)) in
     let told = run-told (linesOf text) 0 _ nothing (record { table = t; floored = 1 }) growing-nothing (x .2) in
     record {
-      ended = empty (restOf text) (x .0);
+      ended = length-none (restOf text) (x .0);
       digits = told .digits;
       frames = told .frames;
       well = accepted-wellformed text t e;
@@ -105,7 +113,7 @@ accepted-keeps text t e =
 -- ---- a text that keeps the rules is accepted
 
 -- Lines of digits whose frames lead from p to q are read so.
-run-leads : (ls : List (List ℕ)) (n : ℕ) (p q : Progress) → Digits ls → Leads p (map lineFrame ls) q
+run-leads : (ls : List (List ℕ)) (n : ℕ) (p q : Progress) → Digits ls → Leads Taken p (map lineFrame ls) q
     → (m : ℕ) × (run (reading n p) ls ≡ reading m q)
 unfolding run step takeFrame
 run-leads [] n p q d h = (n, ap (reading n) h)
@@ -116,7 +124,7 @@ keeps-accepted : (text : List ℕ) (t : Table) → KeepsRules text t → parse t
 unfolding parse finish
 keeps-accepted text t k =
     let p : Progress = record { table = t; floored = 1 } in
-    let h : Leads nothing (map lineFrame (linesOf text)) p = rw (k .frames) (leads-table t (k .well)) in
+    let h : Leads Taken nothing (map lineFrame (linesOf text)) p = rw (k .frames) (rules-lead t (k .well)) in
     rw (run-leads (linesOf text) 0 nothing p (k .digits) h .1, k .ended)
 
 -- ---- the theorem

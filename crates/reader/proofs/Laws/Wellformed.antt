@@ -100,7 +100,7 @@ next-small : (n : ℕ) (p : Progress) → Read n p → suc n < 256
 next-small n p r =
     let g = r .growing in
     let e = r .lines in
-    omega (arith, g .entities .few, g .caps .few, g .floor .once, g .filters .few, g .rows .few)
+    omega (arith, g .sequenced .few-entities, g .sequenced .few-caps, g .sequenced .one-floor, g .sequenced .few-filters, g .sequenced .few-rows)
 
 frame-sound : (n : ℕ) (p : Progress) (f : Frame) → InFrame f → Read n p → Sound (takeFrame n p f)
 unfolding takeFrame
@@ -131,18 +131,18 @@ run-read lines n p e = rw e at (run-sound lines)
 
 growing-wellformed : (p : Progress) → Growing p → p .floored ≡ 1 → Wellformed (p .table)
 growing-wellformed p g f =
-    let six = g .floor .after f in
+    let six = g .sequenced .caps-first f in
     record {
-      some-entity = g .caps .after (omega arith);
-      few-entities = g .entities .few;
-      entity = g .entities .each;
+      some-entity = g .sequenced .entities-first (omega arith);
+      few-entities = g .sequenced .few-entities;
+      entity = g .entity;
       six-caps = six;
-      cap = λ k h. g .caps .each k (omega arith);
-      floor = g .floor .rule f;
-      few-filters = g .filters .few;
-      filter = g .filters .each;
-      few-rows = g .rows .few;
-      row = g .rows .each;
+      cap = λ k h. g .cap k (omega arith);
+      floor = g .floor f;
+      few-filters = g .sequenced .few-filters;
+      filter = g .filter;
+      few-rows = g .sequenced .few-rows;
+      row = g .row;
     }
 
 -- What holds of what a text is.

@@ -1,7 +1,8 @@
--- Laws of technologies: the layers by ranges; the test of ≻; exactly one of the five relations holds, and the test finds it; NULL.
+-- Laws of technologies: the layers by ranges; the test of ≻; exactly one of the five relations holds, and the test finds it; that the layers decide
+-- between technologies that are not NULL; NULL.
 -- Assumes nothing.
 use mathlib.Core.Path.{_≡_, refl, sym, ap, _∙_}
-use mathlib.Core.Logic.{_⊎_, inl, inr}
+use mathlib.Core.Logic.{_⊎_, _↔_, inl, inr}
 use mathlib.Core.Bool.{not, _&&_}
 use mathlib.Core.List.{[], _∷_}
 use Prim.Native.Nat.{ℕ, zero, suc, _≤_, _<_}
@@ -32,6 +33,14 @@ layer-five (suc (suc (suc zero))) h k = absurd (omega arith)
 layer-five (suc (suc (suc (suc zero)))) h k = refl
 layer-five (suc (suc (suc (suc (suc zero))))) h k = refl
 layer-five (suc (suc (suc (suc (suc (suc t)))))) h k = absurd (omega arith)
+
+pub layer-three : layerOf 3 ≡ 3
+unfolding layerOf
+layer-three = refl
+
+pub layer-seven : layerOf 6 ≡ 7
+unfolding layerOf
+layer-seven = refl
 
 -- NULL, and what is no technology.
 pub layer-none : (t : ℕ) → (t ≡ 0) ⊎ (7 ≤ t) → layerOf t ≡ 0
@@ -106,9 +115,27 @@ module _ (t u : ℕ) where
   pub one-technology-relation : OneOfFive (TechnologiesStand t u)
   one-technology-relation = only (TechnologiesStand t u) exclusive (technologyRelation t u) technologyRelation-holds
 
--- NULL is disjoint from every other technology, and dominated by none.
-pub null-disjoint : (t : ℕ) → (t ≡ 0 → ⊥) → DisjointTechnologies 0 t
-null-disjoint t n = inl (refl, n)
+  -- ---- by layers, of two that are not NULL
 
-pub null-not-dominated : (t : ℕ) → Dominates t 0 → ⊥
-null-not-dominated t d = d .lower refl
+  module _ (n : t ≡ 0 → ⊥) (m : u ≡ 0 → ⊥) where
+    pub dominates-layers : Dominates t u ↔ (layerOf t < layerOf u)
+    dominates-layers = (λ d. d .layer, λ l. record { upper = n; lower = m; layer = l })
+
+    pub kin-layers : KinTechnologies t u ↔ ((t ≡ u → ⊥) × (layerOf t ≡ layerOf u))
+    kin-layers = (λ k. (k .different, k .layer), λ h. record { one = n; other = m; different = h .0; layer = h .1 })
+
+-- ---- NULL
+
+-- It is disjoint from every other technology, and neither dominates nor is dominated.
+module _ (t : ℕ) where
+  pub null-disjoint : (t ≡ 0 → ⊥) → DisjointTechnologies 0 t
+  null-disjoint n = inl (refl, n)
+
+  pub disjoint-null : (t ≡ 0 → ⊥) → DisjointTechnologies t 0
+  disjoint-null n = inr (n, refl)
+
+  pub null-not-dominating : Dominates 0 t → ⊥
+  null-not-dominating d = d .upper refl
+
+  pub null-not-dominated : Dominates t 0 → ⊥
+  null-not-dominated d = d .lower refl

@@ -4,7 +4,7 @@ use borrow.Author.Tests.{leb-true, leb-false}
 use native.Mathlib.Omega.{arith}
 use lib.ListN.{getD}
 use Prim.Native.Nat.{_-_, _≤_, _<_}
-use mathlib.Core.Path.{sym, ap, _∙_}
+use mathlib.Core.Path.{_≡_, sym, ap, _∙_}
 use Rattle.policy.specs.Limits.{mostSelectors}
 use Rattle.policy.specs.Model.{Range}
 use Rattle.policy.specs.Views.{value}
@@ -23,8 +23,9 @@ again : tie.Need-loop-again I μ
 again c =
     let t = c .before .before .before in
     let s = t .before .before in
+    let least : value (c .lesser .result) ≡ lesser (value (s .args .v)) (value (c .before .range-at .result .high)) (value (t .before .loop .m)) = c .lesser .ensures in
     scanned-more _ _ _ _ _ _ _ (s .pre .0) (s .pre .1) (t .before .loop .inv) (t .loop-test .taken) _
-    (c .lesser .ensures ∙ ap (λ (r : Range). lesser (value (s .args .v)) (r .high) (value (t .before .loop .m))) (c .before .range-at .ensures))
+    (least ∙ ap (λ (r : Range). lesser (value (s .args .v)) (r .high) (value (t .before .loop .m))) (c .before .range-at .ensures))
 
 -- the number that was read is a selector's
 number : (c : tie.After-i I μ) → getD (c .before .before .before .args .t2 .at) (c .before .before .loop .k) 0 < mostSelectors

@@ -21,7 +21,7 @@ use Rattle.reader.specs.States.{parse}
 use Rattle.reader.proofs.Laws.Rows.{accepted-rows, accepted-lines}
 use Rattle.reader.proofs.Laws.Texts.{NotFeed, NoFeed, AllNoFeed, text-cut, lines-clean}
 use Rattle.reader.proofs.Laws.Wellformed.{accepted-wellformed}
-use Rattle.reader.proofs.Laws.Sequence.{empty}
+use Rattle.base.proofs.Laws.Lists.{length-none}
 use Rattle.base.proofs.Laws.Passing.{bit-le}
 use Rattle.kinds.specs.Tests.{dead}
 use Rattle.base.specs.Lists.{numbersFrom}
@@ -155,7 +155,7 @@ module _ (text : List ℕ) (t : Table) (e : parse text ≡ returned t) where
     struck-kept : keptBytes keep 0 text ≡ struckText text t
     unfolding struckText
     struck-kept =
-        let r : restOf text ≡ [] = empty (restOf text) (accepted-rows text t e .ended) in
+        let r : restOf text ≡ [] = length-none (restOf text) (accepted-rows text t e .ended) in
         let a = length-take-le others ls (let l = long in omega arith) in
         let cut = sym (text-cut text) ∙ ap (λ (q : List ℕ). textOf ls ++ q) r ∙ append-nil (textOf ls) in
         ap (keptBytes keep 0) cut

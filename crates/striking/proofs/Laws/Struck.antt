@@ -12,13 +12,11 @@ use Rattle.policy.specs.Wellformed.{IsEntity, Wellformed}
 use Rattle.relations.specs.Groups.{SameGroup, Matches, Wins, Dead, winnerFrom}
 use Rattle.relations.specs.declared.group.Outcome.{Outcome}
 use Rattle.relations.specs.declared.group.Outcome.the-variants.{Won, Nobody}
-use Rattle.base.specs.Truths.{Decides}
-use Rattle.base.proofs.Laws.Decides.{decides-not, decides-holds}
+use Rattle.base.proofs.Laws.Decides.{decides-holds}
 use Rattle.relations.proofs.Laws.Groups.{group-sym, group-trans, group-wins, group-nobody}
 use Rattle.kinds.specs.Tests.{dead}
-use Rattle.kinds.proofs.Laws.Rows.{dead-decides}
 use Rattle.striking.specs.Striking.{kept, struck, SameWinner, Struck}
-use Rattle.striking.proofs.Laws.Kept.{kept-rows, kept-row}
+use Rattle.striking.proofs.Laws.Kept.{kept-rows, kept-row, alive-decides}
 use Rattle.striking.proofs.Laws.Tables.{length-struck, row-struck, struck-well}
 
 -- ---- who wins in the struck table
@@ -51,14 +49,11 @@ wins-once t i j a b p s u v =
     ]
 
 module _ (t : Table) (w : Wellformed t) where
-  alive-decides : (i : ℕ) → i < length (t .rows) → Decides (not (dead t i)) (Dead t i → ⊥)
-  alive-decides i h = decides-not (dead t i) (dead-decides t w i h)
-
   -- No row of the struck table is dead: the row that it was is not.
   struck-alive : (k : ℕ) → k < length (struck t .rows) → Dead (struck t) k → ⊥
   struck-alive k l d =
       let h : k < length (kept t) = omega (arith, length-struck t) in
-      alive-decides (getD (kept t) k 0) (kept-row t k h) .yes (kept-rows t .pass k h)
+      alive-decides t w (getD (kept t) k 0) (kept-row t k h) .yes (kept-rows t .pass k h)
       (λ a b p x y o. d a b p x y (wins-struck t a b p k h o))
 
   module _ (g : Row) (a b : ℕ) (p : Packet) (x : IsEntity t a) (y : IsEntity t b) where
@@ -67,7 +62,7 @@ module _ (t : Table) (w : Wellformed t) where
         → (m : ℕ) × (m < length (kept t)) × (getD (kept t) m 0 ≡ i) × SameGroup (rowAt (struck t) m) g × Wins (struck t) m a b p
     stays i e =
         let u = group-wins t g a b p i e in
-        let live = decides-holds (not (dead t i)) (alive-decides i (u .1 .row)) (λ d. d a b p x y (u .1)) in
+        let live = decides-holds (not (dead t i)) (alive-decides t w i (u .1 .row)) (λ d. d a b p x y (u .1)) in
         let c = kept-rows t .all i (omega arith) (omega (arith, u .1 .row)) live in (
           c .0,
           c .1,

@@ -91,7 +91,7 @@ whole c =
     let h = d .before .before .before .if1 .left in
     let n = long k in
     let l : length (result f) ≤ length (out f) = omega arith in
-    record { output = stored d ∙ written-stored (result f) (out f) l; answer = ap Length n ∙ rw (fits-all (result f) (out f) l) refl }
+    record { output = stored d ∙ written-stored (result f) (out f) l; answer = rw (fits-all (result f) (out f) l) (ap Length n) }
 
 pub strike-spec : {M : Type 1} → statement M
 strike-spec =

@@ -2,6 +2,7 @@
 use borrow.Author.Needs.{needs}
 use borrow.Author.Tests.{lt-ltb, le-ltb}
 use denote.Ref.{now}
+use mathlib.Core.Path.{refl}
 use mathlib.Core.Bool.{and-false}
 use lib.Seq.{getD-take}
 use Rattle.frames.proofs.Laws.Numbers.{first-counted}
@@ -24,6 +25,7 @@ earlier c =
       lt-ltb _ _ h,
       getD-take (s .args .count) (now (s .args .layers)) (s .args .e .parent) 0 h,
     )
+    refl
 
 pub is-good-other-spec : {M : Type 1} → statement M
 is-good-other-spec = tie.close (tie.spec (λ c. search needs) late (λ c κs. search needs) (λ c. search needs) earlier)

@@ -1,8 +1,10 @@
 -- `has_numbers` meets its contract: it is the test of each number, and the gateways are as many as there are. Assumes nothing.
 use borrow.Author.Needs.{needs}
 use denote.Ref.{now}
+use mathlib.Core.Path.{_≡_}
+use lib.ListN.{take}
 use Rattle.base.proofs.Laws.Members.{take-own}
-use Rattle.frames.specs.Numbers.{isEntity}
+use Rattle.frames.specs.Numbers.{isEntity, allRoots}
 use Rattle.frames.specs.Rows.{rowNumbers}
 use Rattle.frames.proofs.Laws.Numbers.{first-counted}
 use Rattle.frames.proofs.row.has_numbers.Statement.{statement}
@@ -15,12 +17,13 @@ returns c =
     let r = e .before .before in
     let n = r .before .before in
     let a = n .before .args in
+    let through : c .all-roots .result ≡ allRoots (take (a .count) (now (a .parents))) (take (n .gateway-count .result) (a .r .gateways)) = c .all-roots .ensures in
     simp (
       first-counted (a .count) (now (a .parents)) (n .before .pre),
       r .is-root .ensures,
       e .before .is-entity .ensures,
       e .is-entity2 .ensures,
-      c .all-roots .ensures,
+      through,
       n .gateway-count .ensures .0,
       take-own (a .r .count) (a .r .gateways),
     )

@@ -5,8 +5,8 @@ use mathlib.Core.List.{map}
 use native.Mathlib.Omega.{arith}
 use denote.Ref.{now}
 use lib.ListN.{getD}
-use Rattle.policy.specs.Views.{parentIn, rowIn, rowsIn, coefficientsOf, filterIn}
-use Rattle.verdicts.specs.Verdicts.{verdictAfter, isNone}
+use Rattle.policy.specs.Views.{coefficientsOf, filterIn}
+use Rattle.verdicts.specs.Verdicts.{verdictIn, isNone}
 use Rattle.kinds.specs.Views.{Placed, placedOf, placedIn}
 use Rattle.kinds.specs.Tests.{internalLoop, outOfPlace, nonEnforceable, inadequate, filtered, layerTwo, cyclic}
 use Rattle.listing.proofs.marks.of_row.Statement.{statement}
@@ -33,8 +33,7 @@ returns c =
     let p = loop .before .before in
     let s = p .before .args in
     let e = read p in
-    let verdict : dead .is-dead .result ≡ isNone (verdictAfter (parentIn (now (s .parents))) (rowsIn (now (s .heads)) (now (s .bounds)) (s .i)) (rowIn (now (s .heads)) (now (s .bounds)) (s .i))) =
-    dead .is-dead .ensures in
+    let verdict : dead .is-dead .result ≡ isNone (verdictIn (now (s .parents)) (now (s .heads)) (now (s .bounds)) (s .i)) = dead .is-dead .ensures in
     record {
       marks =
           rw (

@@ -25,7 +25,13 @@ use Rattle.reader.proofs.Reader.next.Tie as tie
 
 stays : tie.Need-returns
 unfolding step
-stays c = record { same = rw (ne-eqb _ _ (c .if1 .taken)); ready = c .before .before .before .pre }
+stays c =
+    let s = c .before .before .before in
+    record { same = rw (ne-eqb (s .args .self .number) 0 (λ z. omega (arith, c .if1 .taken))); ready = s .pre }
+
+-- it is not refused
+going : (c : tie.Else1) → c .before .before .before .args .self .number ≡ 0
+going c = omega (arith, c .if1 .left)
 
 no-line : tie.Need-returns-2
 no-line c =
@@ -33,7 +39,7 @@ no-line c =
     let e = i .before in
     let s = e .before .before .before in
     moved (c .refuse .ensures)
-    (sym (step-no-line (s .args .self) (now (s .args .line)) (e .if1 .left) (sym (i .is-line .ensures) ∙ not-true _ (c .before .if2 .taken))))
+    (sym (step-no-line (s .args .self) (now (s .args .line)) (going e) (sym (i .is-line .ensures) ∙ not-true _ (c .before .if2 .taken))))
 
 -- it is a line
 line : (c : tie.Else2) → isLine (now (c .before .before .before .before .before .args .line)) ≡ true
@@ -59,7 +65,7 @@ module _ (c : tie.After-u8-at) where
       let t = now (entry .args .line) in
       let e : rest ≡ drop 2 t = take-all (length t - 2) (drop 2 t) (omega (arith, length-drop 2 t)) in
       rw e
-      (sym (step-line (entry .args .self) t (l .before .before .if1 .left) (line l) byte (sym q ∙ c .u8-at .ensures)))
+      (sym (step-line (entry .args .self) t (going (l .before .before)) (line l) byte (sym q ∙ c .u8-at .ensures)))
 
   -- and so for each kind
   own : (k : FrameName) → c .u8-at .result ≡ describe k .byte

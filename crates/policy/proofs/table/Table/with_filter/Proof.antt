@@ -1,10 +1,11 @@
 -- `Table::with_filter` meets its contract: the new filter stands where the filters end, and the rows' selectors stay. Assumes nothing.
-use mathlib.Core.Path.{refl}
+use mathlib.Core.Path.{_≡_, refl}
 use Prim.Native.Nat.{_+_}
 use native.Mathlib.Omega.{arith}
 use borrow.Author.Needs.{needs}
 use Rattle.policy.specs.Limits.{mostRows}
 use Rattle.policy.specs.Views.{filterOf}
+use Rattle.policy.specs.Writes.{putSelector}
 use Rattle.policy.proofs.Laws.Lists.{filters-grown, rows-kept}
 use Rattle.policy.proofs.Laws.Tables.{sized}
 use Rattle.policy.proofs.table.Table.with_filter.Statement.{statement}
@@ -15,10 +16,11 @@ returns c =
     let t = c .before .before .args .t1 in
     let f = filterOf (c .before .before .args .f) in
     let z = sized t (c .before .before .good .0) in
+    let past : c .put-selector .last .0 ≡ putSelector (t .bounds) (mostRows + t .filters) (f .selector) = c .put-selector .ensures in
     record {
       same =
           rw (
-            c .put-selector .ensures,
+            past,
             filters-grown (t .«filter_roots») (t .bounds) (t .filters) f (omega arith) refl (omega arith),
             rows-kept (t .bounds) (mostRows + t .filters) (f .selector) refl (t .heads) (t .rows) (omega arith),
           );
