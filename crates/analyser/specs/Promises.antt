@@ -11,7 +11,7 @@ use Rattle.policy.specs.Model.{Packet, Row, Table, rowAt, parentOf}
 use Rattle.policy.specs.Wellformed.{IsEntity, widths}
 use Rattle.base.specs.Truths.{Decides}
 use Rattle.relations.specs.Entities.{Tree}
-use Rattle.relations.specs.Groups.{SameGroup, Matches, matches, Wins, Dead, winnerFrom}
+use Rattle.relations.specs.Groups.{SameGroup, Matches, Wins, Dead, winnerFrom}
 use Rattle.frames.specs.Kinds.{ofEntity, ofCap, ofFloor, ofFilter, ofRow, describe}
 use Rattle.reader.specs.Frames.{Frame, aRow, frameOf}
 use Rattle.reader.specs.Forms.{SaysFrame}

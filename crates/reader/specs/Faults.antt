@@ -54,9 +54,9 @@ pub data Fault (before : List Frame) (line : List ℕ) : ℕ → Type 0 where
 -- A fault of the text's end, after the frames of its lines, with what stands after its last line feed.
 pub data EndFault (before : List Frame) (rest : List ℕ) : ℕ → Type 0 where
   -- "last line without line feed"
-  no-feed : (rest ≡ [] → ⊥) → EndFault before rest 1
+  feed-missing : (rest ≡ [] → ⊥) → EndFault before rest 1
   -- "a text ending before the floor"
-  no-floor : rest ≡ [] → ((c : Coefficients) → List·Memᴰ (aFrame ofFloor c) before → ⊥) → EndFault before rest 3
+  floor-missing : rest ≡ [] → ((c : Coefficients) → List·Memᴰ (aFrame ofFloor c) before → ⊥) → EndFault before rest 3
 
 -- The fault n at place k, from 0, of these lines after the frames before them. The text's end stands after the last line: "gives last line + 1".
 abbrev pub FaultFrom : List Frame → List (List ℕ) → List ℕ → ℕ → ℕ → Type 0

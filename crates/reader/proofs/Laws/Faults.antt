@@ -5,27 +5,20 @@ use mathlib.Core.Path.{_≡_, refl, sym, ap, _∙_}
 use mathlib.Core.Bool.{Bool, true, false, false≢true, true≢false}
 use mathlib.Core.Logic.{inl, inr}
 use mathlib.Core.List.{List, [], _∷_, _++_, append-assoc}
-use Prim.Native.Nat.{ℕ, _+_, _≤_, _<_}
-use native.Mathlib.Decide.{ℕ-discrete}
+use Prim.Native.Nat.{ℕ, _+_}
 use native.Mathlib.Omega.{arith}
-use borrow.Author.Tests.{eq-eqb, lt-ltb, le-leb, eqb-true}
-use lib.ListN.{length, getD}
 use Rattle.base.specs.Checks.{Check, or-else}
-use Rattle.base.specs.Truths.{pick, Decides}
 use Rattle.base.proofs.Laws.Checks.{Rising, Faults, Breaks, faults-as}
 use Rattle.base.proofs.Laws.Decides.{not-holds}
 use Rattle.hex.specs.Lines.{isLine, bytesOf}
 use Rattle.hex.proofs.Laws.Lines.{noLine-decides}
-use Rattle.policy.specs.Model.{Table}
-use Rattle.policy.specs.Wellformed.{widths}
 use Rattle.frames.specs.Refusals.{noLine}
-use Rattle.frames.specs.Faults.{Judged, ContentFault}
+use Rattle.frames.specs.Faults.{ContentFault}
 use Rattle.frames.specs.Progress.{Progress, nothing}
-use Rattle.frames.specs.Kinds.{FrameName, ofEntity, ofCap, ofFloor, ofFilter, ofRow, Value, describe}
+use Rattle.frames.specs.Kinds.{describe}
 use Rattle.frames.proofs.Laws.Growing.{Growing, growing-nothing, nothing-faulty}
-use Rattle.frames.proofs.Laws.Rows.{row-counted}
 use Rattle.frames.proofs.Laws.Kinds.{lawful}
-use Rattle.reader.specs.Frames.{Frame, aFrame, noFrame, frameIn, frameOf}
+use Rattle.reader.specs.Frames.{Frame, aFrame, noFrame}
 use Rattle.reader.specs.States.{checks, grown}
 use Rattle.reader.specs.Rules.{framesOf}
 use Rattle.reader.specs.Faults.{Begins, readFrames, judgedOf, Fault, no-line, no-form, no-place, bad-content}

@@ -5,7 +5,7 @@
 use mathlib.Core.Path.{_≡_, refl, sym, ap, _∙_}
 use mathlib.Core.Bool.{Bool, true, false, false≢true}
 use mathlib.Core.Logic.{_↔_, inl, inr}
-use mathlib.Core.List.{List, [], _∷_, _++_, map, List·Memᴰ, List·Memᴰ·head, List·Memᴰ·tail, List·Memᴰ·not-nil, List·Memᴰ·cases-cons, List·Memᴰ·append-cases}
+use mathlib.Core.List.{List, [], _∷_, _++_, map, List·Memᴰ, List·Memᴰ·not-nil, List·Memᴰ·cases-cons, List·Memᴰ·append-cases}
 use Prim.Native.Nat.{ℕ, zero, suc, _+_, _≤_, _<_}
 use native.Mathlib.Decide.{decLt}
 use native.Mathlib.Omega.{arith}
@@ -14,23 +14,22 @@ use lib.Dec.{eqb}
 use lib.ListN.{length}
 use Rattle.base.specs.Answers.{Answer, returned, refusedBy}
 use Rattle.base.specs.Checks.{refusal}
-use Rattle.base.specs.Truths.{pick}
 use Rattle.base.proofs.Laws.Checks.{refusal-holds, refusal-broken, refusal-none, refusal-least, refusal-fault}
 use Rattle.base.proofs.Laws.Lists.{length-none}
-use Rattle.hex.specs.Lines.{isLine, bytesOf}
+use Rattle.hex.specs.Lines.{isLine}
 use Rattle.policy.specs.Model.{Entity, Coefficients, Table}
 use Rattle.frames.specs.Refusals.{noLine, outOfSequence}
 use Rattle.frames.specs.Progress.{Progress, nothing}
 use Rattle.frames.specs.Kinds.{ofEntity, ofCap, ofFloor, ofFilter, ofRow}
 use Rattle.reader.specs.Lines.{linesOf, restOf}
 use Rattle.reader.specs.Frames.{Frame, aFrame, noFrame}
-use Rattle.reader.specs.States.{State, reading, refused, checks, grown, takeFrame, step, run, finish, parse}
+use Rattle.reader.specs.States.{reading, refused, checks, grown, takeFrame, step, run, finish, parse}
 use Rattle.reader.specs.Rules.{capFrames}
-use Rattle.reader.specs.Faults.{Fault, EndFault, no-feed, no-floor, FaultFrom, FaultAt, FirstFault}
+use Rattle.reader.specs.Faults.{Fault, EndFault, feed-missing, floor-missing, FaultFrom, FaultAt, FirstFault}
 use Rattle.reader.proofs.Laws.Runs.{pick-either}
 use Rattle.reader.proofs.Laws.States.{faultless, faulty, run-refused}
 use Rattle.reader.proofs.Laws.Wellformed.{in-range, growing-frame}
-use Rattle.reader.proofs.Laws.Sequence.{framesSoFar, early-frames, floor-there}
+use Rattle.reader.proofs.Laws.Sequence.{early-frames, floor-there}
 use Rattle.reader.proofs.Laws.Rules.{lineFrame, so-far-taken}
 use Rattle.reader.proofs.Laws.Faults.{Reached, reached-nothing, read-more, lineChecks, line-rising, line-faults, line-breaks}
 
@@ -99,7 +98,7 @@ module _ (c : Coefficients) where
 
 module _ (before : List Frame) (p : Progress) (r : Reached before p) (rest : List ℕ) where
   end-early : rest ≡ [] → (p .floored ≡ 1 → ⊥) → EndFault before rest outOfSequence
-  end-early e n = no-floor e (λ c m.
+  end-early e n = floor-missing e (λ c m.
       let q = r .growing .sequenced in
       let z : p .floored ≡ 0 = omega (arith, q .one-floor, n) in
       let m′ : List·Memᴰ (aFrame ofFloor c) (map (aFrame ofEntity) (p .table .entities) ++ capFrames 1 (p .table .caps)) = rw (← r .frames, early-frames p z (q .floor-first z)) at m in
@@ -109,16 +108,16 @@ module _ (before : List Frame) (p : Progress) (r : Reached before p) (rest : Lis
       ])
 
   end-whole : rest ≡ [] → p .floored ≡ 1 → (n : ℕ) → EndFault before rest n → ⊥
-  end-whole e f n (no-feed h) = h e
-  end-whole e f n (no-floor h none) = none (p .table .floor) (rw (← r .frames) (floor-there p f))
+  end-whole e f n (feed-missing h) = h e
+  end-whole e f n (floor-missing h none) = none (p .table .floor) (rw (← r .frames) (floor-there p f))
 
   end-least : rest ≡ [] → (n : ℕ) → EndFault before rest n → outOfSequence ≤ n
-  end-least e n (no-feed h) = absurd (h e)
-  end-least e n (no-floor h none) = omega arith
+  end-least e n (feed-missing h) = absurd (h e)
+  end-least e n (floor-missing h none) = omega arith
 
   end-some : (n : ℕ) → EndFault before rest n → noLine ≤ n
-  end-some n (no-feed h) = omega arith
-  end-some n (no-floor h none) = omega arith
+  end-some n (feed-missing h) = omega arith
+  end-some n (floor-missing h none) = omega arith
 
 -- ---- lines and the text's end
 
@@ -141,7 +140,7 @@ says-end before p r rest m =
     pick-either (Says before [] rest m) (eqb (p .floored) 1) _ _
     (λ f k n. whole (end-whole before p r rest ended (eqb-true (p .floored) 1 f)) k n)
     (λ f. at-end outOfSequence (end-early before p r rest ended (eqb-false (p .floored) 1 f)) (end-least before p r rest ended)))
-    (λ e. at-end noLine (no-feed (λ z. eqb-false (length rest) 0 e (ap length z))) (end-some before p r rest))
+    (λ e. at-end noLine (feed-missing (λ z. eqb-false (length rest) 0 e (ap length z))) (end-some before p r rest))
   where
     whole : ((n : ℕ) → EndFault before rest n → ⊥) → (k n : ℕ) → FaultFrom before [] rest k n → ⊥
     whole none zero n h = none n h

@@ -23,7 +23,7 @@ use Rattle.frames.proofs.Laws.Floors.{early-floor}
 use Rattle.frames.proofs.Laws.Filters.{early-filter}
 use Rattle.reader.specs.Frames.{Frame, aFrame, aRow}
 use Rattle.reader.specs.Rules.{capFrames, framesOf}
-use Rattle.reader.specs.Faults.{Counts, Begins}
+use Rattle.reader.specs.Faults.{Begins}
 
 -- ---- the frames of what is read so far
 
