@@ -15,7 +15,7 @@
 #define LAINUKESK_COUNT(n) ((n) % 65536)
 
 /* Refusals. */
-#define LAINUKESK_CHARACTER 1 /* empty line, other character, odd digits, last line without line feed */
+#define LAINUKESK_CHARACTER 1 /* empty line, a character other than 0-9 A-F a-f, odd digits, last line without line feed */
 #define LAINUKESK_LENGTH 2    /* unknown kind, length not the kind's, n above 8 */
 #define LAINUKESK_SEQUENCE 3  /* the sequence can't go on so; a text that ends before the floor gives last line + 1 */
 #define LAINUKESK_ENTITY 4    /* entity breaks its rules */

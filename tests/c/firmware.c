@@ -17,6 +17,11 @@
 #define CUT_TABLE ENTITIES CAPS FLOOR ROWS
 #define TABLE CUT_TABLE "\n"
 
+/* T with some of its letters small, and with a letter after f. */
+#define MIXED_ENTITIES "01ff007e\n01000300\n01fF007E\n01020300\n"
+#define MIXED_TABLE MIXED_ENTITIES CAPS FLOOR ROWS "\n"
+#define LETTER_G "01ff007g\n"
+
 /* What a byte of the output holds before the call. */
 #define UNTOUCHED 0xA5
 /* Bytes behind the lent output, which are not to change either. */
@@ -43,6 +48,9 @@ static const struct check checks[] = {
     {"T in no bytes", TABLE, 0, LAINUKESK_SHORT, 0, 0},
     {"T in the largest buffer", TABLE, LAINUKESK_LIST_BYTES, 0, 6, 18},
     {"T without its rows", ENTITIES CAPS FLOOR, 0, 0, 0, 0},
+    {"T with small letters", MIXED_TABLE, 18, 0, 6, 18},
+    {"T with small letters in 17 bytes", MIXED_TABLE, 17, LAINUKESK_SHORT, 0, 0},
+    {"a letter after f", LETTER_G, 18, LAINUKESK_CHARACTER, 1, 0},
     {"T less its last line feed", CUT_TABLE, 18, LAINUKESK_CHARACTER, 14, 0},
     {"the same in 17 bytes", CUT_TABLE, 17, LAINUKESK_CHARACTER, 14, 0},
     {"T cut before its floor", ENTITIES CAPS, 18, LAINUKESK_SEQUENCE, 11, 0},

@@ -3,24 +3,27 @@
 use crate::damage::damaged;
 use crate::draft::Scale;
 use crate::frames::{lines, text};
+use crate::letters::recased;
 use crate::long::long;
 use crate::probes::{probes, Probe};
 use crate::random::Random;
 use crate::shapes::table;
 
-/// A text, its probes, and whether every probe of it can be tried.
+/// A text, the same in another case of its letters, its probes, and whether every probe of it can be tried.
 pub struct Case {
     pub text: Vec<u8>,
+    pub recased: Vec<u8>,
     pub probes: Vec<Probe>,
     pub tiny: bool,
 }
 
 impl Case {
-    /// A case of the text alone.
-    pub fn of_text(text: &[u8]) -> Case {
+    /// A case of the text and probes alone.
+    pub fn of_text(text: &[u8], probes: &[Probe]) -> Case {
         Case {
             text: text.to_vec(),
-            probes: Vec::new(),
+            recased: text.to_vec(),
+            probes: probes.to_vec(),
             tiny: false,
         }
     }
@@ -45,7 +48,8 @@ pub fn case(seed: u64, number: u64) -> Case {
         _ => text(&lines),
     };
     Case {
-        text,
+        recased: recased(random, &text),
+        text: recased(random, &text),
         probes: probes(random, &table),
         tiny,
     }

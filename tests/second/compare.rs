@@ -2,6 +2,7 @@
 
 use crate::cases::{case, Case};
 use crate::differences::Difference;
+use crate::letters;
 use crate::library;
 use crate::printed::{self, Answers, MOST_INPUT};
 use crate::programs::{name, piped, Programs};
@@ -108,6 +109,7 @@ fn compare_batch(programs: &Programs, cases: &[(u64, Case)]) -> Result<(), Diffe
         compare_output(*number, &programs.rowlist, &case.text, &answers.list)?;
         compare_output(*number, &programs.strike, &case.text, &answers.struck)?;
     }
+    check_letters(programs, cases, &answers)?;
     check_promises(programs, cases, &answers)
 }
 
@@ -211,6 +213,27 @@ fn beginning<'p>(printed: &'p [u8], other: &[u8]) -> &'p [u8] {
     &printed[..length]
 }
 
+/// Compares what `answers` prints of the same texts in another case of their letters, and holds the answers against each other.
+fn check_letters(
+    programs: &Programs,
+    cases: &[(u64, Case)],
+    answers: &[Answers],
+) -> Result<(), Difference> {
+    let recased: Vec<(u64, Case)> = cases
+        .iter()
+        .map(|(number, case)| (*number, Case::of_text(&case.recased, &case.probes)))
+        .collect();
+    let others =
+        compare_answers(programs, &recased).map_err(|difference| difference.of("recased"))?;
+    for (((number, _), one), other) in cases.iter().zip(answers).zip(&others) {
+        letters::check(one, other).map_err(|told| Difference {
+            number: *number,
+            told,
+        })?;
+    }
+    Ok(())
+}
+
 /// Holds demand 3 against the answers on the tiny tables and on their struck texts.
 fn check_promises(
     programs: &Programs,
@@ -224,12 +247,9 @@ fn check_promises(
         .collect();
     let struck: Vec<(u64, Case)> = tiny
         .iter()
-        .map(|((number, _), answers)| (*number, Case::of_text(&answers.struck)))
+        .map(|((number, _), answers)| (*number, Case::of_text(&answers.struck, &[])))
         .collect();
-    let after = compare_answers(programs, &struck).map_err(|difference| Difference {
-        told: format!("of the struck text, {}", difference.told),
-        ..difference
-    })?;
+    let after = compare_answers(programs, &struck).map_err(|difference| difference.of("struck"))?;
     for (((number, case), before), after) in tiny.into_iter().zip(&after) {
         promises::check(&case.text, &case.probes, before, after).map_err(|broken| Difference {
             number: *number,

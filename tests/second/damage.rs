@@ -5,8 +5,10 @@ use crate::random::Random;
 use crate::reader::{MOST_ENTITIES, MOST_FILTERS, MOST_ROWS};
 use crate::table::{FIELDS, WIDTHS};
 
-/// Characters that are no digits, many of them next to digits.
-const OTHER_CHARACTERS: &[u8] = b"\0\r\t /:@G`abcdefgxz~\x7F\x80\xB0\xFF";
+/// The characters before and after 0-9, A-F and a-f.
+const NEXT_TO_DIGITS: &[u8] = b"/:@G`g";
+/// Other characters that are no digits.
+const OTHER_CHARACTERS: &[u8] = b"\0\r\t xz~\x7F\x80\xB0\xC1\xE1\xE6\xFF";
 /// Kind bytes of no frame.
 const UNKNOWN_KINDS: [u8; 7] = [0x00, 0x06, 0x07, 0x08, 0x10, 0x50, 0xFF];
 
@@ -19,10 +21,10 @@ pub fn damaged(random: &mut Random, mut lines: Vec<Vec<u8>>) -> Vec<u8> {
         if !one_line {
             at = any_line(random, &lines);
         }
-        match random.below(12) {
-            0 => spoil_digits(random, &mut lines[at]),
-            1..=2 => spoil_form(random, &mut lines[at]),
-            3..=4 => at = spoil_sequence(random, &mut lines, at),
+        match random.below(13) {
+            0..=1 => spoil_digits(random, &mut lines[at]),
+            2..=3 => spoil_form(random, &mut lines[at]),
+            4..=5 => at = spoil_sequence(random, &mut lines, at),
             _ => spoil_content(random, &mut lines[at]),
         }
     }
@@ -58,9 +60,19 @@ fn spoil_digits(random: &mut Random, line: &mut Vec<u8>) {
             line.remove(at);
         }
         2 => line.insert(at, b'0'),
-        3 => line.push(random.pick(OTHER_CHARACTERS)),
-        _ => line[at] = random.pick(OTHER_CHARACTERS),
+        3 => line.push(no_digit(random)),
+        _ => line[at] = no_digit(random),
     }
+}
+
+/// A character that is no digit, half of the time one next to digits.
+fn no_digit(random: &mut Random) -> u8 {
+    let characters = if random.chance(50) {
+        NEXT_TO_DIGITS
+    } else {
+        OTHER_CHARACTERS
+    };
+    random.pick(characters)
 }
 
 /// Makes the line one of refusal 2.

@@ -22,14 +22,23 @@ impl Difference {
         Difference { number, told }
     }
 
-    /// The difference with the seed's text and its probes.
+    /// The difference, told of the text that was made of the numbered one.
+    pub fn of(self, made: &str) -> Difference {
+        Difference {
+            told: format!("of the {made} text, {}", self.told),
+            ..self
+        }
+    }
+
+    /// The difference with the seed's text, the same in another case, and its probes.
     pub fn report(&self, seed: u64) -> String {
         let case = case(seed, self.number);
         format!(
-            "text {} of seed {seed}: {}\nthe text:\n{}its probes:\n{}",
+            "text {} of seed {seed}: {}\nthe text:\n{}the same, recased:\n{}its probes:\n{}",
             self.number,
             self.told,
             shown(&case.text),
+            shown(&case.recased),
             shown(&probe_lines(&case.probes))
         )
     }

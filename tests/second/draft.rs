@@ -54,7 +54,7 @@ pub fn draft(random: &mut Random, scale: Scale) -> Draft<'_> {
         .map(|_| if strict { few(random) } else { [255; 3] })
         .collect();
     let floor = if random.chance(25) {
-        [0, 1, 2].map(|_| random.pick(&[0, 0, 1, 2]))
+        [0; 3].map(|_: u8| random.pick(&[0, 0, 0, 1, 1, 2, 2, 10, 255]))
     } else {
         [0; 3]
     };

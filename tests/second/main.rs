@@ -14,6 +14,7 @@ mod differences;
 mod draft;
 mod frames;
 mod kinds;
+mod letters;
 mod library;
 mod long;
 mod pairs;

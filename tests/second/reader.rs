@@ -72,11 +72,12 @@ pub fn decode(line: &[u8]) -> Option<Vec<u8>> {
         .collect()
 }
 
-/// The value of a digit 0-9 A-F.
+/// The value of a digit 0-9 A-F a-f.
 fn digit(character: u8) -> Option<u8> {
     match character {
         b'0'..=b'9' => Some(character - b'0'),
         b'A'..=b'F' => Some(character - b'A' + 10),
+        b'a'..=b'f' => Some(character - b'a' + 10),
         _ => None,
     }
 }

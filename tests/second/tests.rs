@@ -7,7 +7,7 @@ use crate::kinds::list;
 use crate::printed;
 use crate::probes::Probe;
 use crate::random::Random;
-use crate::reader::read;
+use crate::reader::{decode, read};
 use crate::relations::same_group;
 use crate::table::{Packet, Refusal, Table, FIELDS};
 use std::collections::BTreeSet;
@@ -105,7 +105,11 @@ fn refusals_of_digits_and_form() {
     let whole = text(&table_t());
     assert_eq!(refusal(&whole[..whole.len() - 1]), Some((1, 14)));
     assert_eq!(refusal(b"\n"), Some((1, 1)));
-    assert_eq!(refusal(b"01FF007e\n"), Some((1, 1)));
+    for character in *b"gG@` \r\0\x80\xC1\xE1\xFF" {
+        let mut line = *b"01FF007E\n";
+        line[7] = character;
+        assert_eq!(refusal(&line), Some((1, 1)), "{character}");
+    }
     assert_eq!(refusal(b"01FF007E\r\n"), Some((1, 1)));
     assert_eq!(refusal(b"01FF007\n"), Some((1, 1)));
     assert_eq!(refusal(b"06FF007E"), Some((1, 1)));
@@ -117,6 +121,25 @@ fn refusals_of_digits_and_form() {
     assert_eq!(refusal(&row("09000000000000000000")), Some((2, 14)));
     assert_eq!(refusal(&row("01")), Some((2, 14)));
     assert_eq!(refusal(&row("")), Some((2, 14)));
+}
+
+#[test]
+fn small_letters_are_read_as_capitals() {
+    let digits = b"0123456789ABCDEFabcdef";
+    for (&digit, value) in digits.iter().zip((0..16).chain(10..16)) {
+        assert_eq!(decode(&[b'0', digit]), Some(vec![value]));
+        assert_eq!(decode(&[digit, b'0']), Some(vec![16 * value]));
+    }
+    for byte in 0..=255 {
+        assert_eq!(decode(&[b'0', byte]).is_some(), digits.contains(&byte));
+    }
+    let small = text(&table_t()).to_ascii_lowercase();
+    let [of_small, of_capitals] =
+        [&small, &text(&table_t())].map(|text| printed::answers("t", text, &[]));
+    assert_eq!(of_small.list, of_capitals.list);
+    assert_eq!(of_small.witnesses, of_capitals.witnesses);
+    assert_eq!(of_small.struck, of_capitals.struck.to_ascii_lowercase());
+    assert_eq!(of_small.lines, of_capitals.lines.to_ascii_lowercase());
 }
 
 #[test]
@@ -211,11 +234,35 @@ fn seeded_texts_have_every_kind_and_refusal() {
 }
 
 #[test]
+fn seeded_texts_have_small_letters_in_every_frame() {
+    let mut kinds = BTreeSet::new();
+    let mut letter_after_f = 0;
+    for number in 0..1000 {
+        let text = case(1, number).text;
+        letter_after_f += text.iter().filter(|&&character| character == b'g').count();
+        if read(&text).is_ok() {
+            for line in text.split(|&character| character == b'\n') {
+                let small = line.iter().any(u8::is_ascii_lowercase);
+                let capital = line.iter().any(u8::is_ascii_uppercase);
+                if small {
+                    kinds.insert((line[1], capital));
+                }
+            }
+        }
+    }
+    let every: BTreeSet<(u8, bool)> = (b'1'..=b'5')
+        .flat_map(|kind| [(kind, false), (kind, true)])
+        .collect();
+    assert_eq!(kinds, every);
+    assert!(letter_after_f > 0);
+}
+
+#[test]
 fn seeded_tables_are_read_as_written() {
     for number in 0..100 {
         let text_read = case(2, number).text;
         if let Ok(table) = read(&text_read) {
-            assert_eq!(text(&lines(&table)), text_read);
+            assert_eq!(text(&lines(&table)), text_read.to_ascii_uppercase());
         }
     }
 }

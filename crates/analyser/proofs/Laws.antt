@@ -2,6 +2,7 @@
 pub mod Texts
 pub mod Calls
 pub mod Outputs
+pub mod Letters
 pub mod RelationPromises
 pub mod Promises
 pub mod Examples

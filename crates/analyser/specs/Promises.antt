@@ -1,18 +1,22 @@
--- Demands 1 to 3, on the calls, for every text. Numbers of document 01 stand here as it prints them. (Demand 2 on relations is in RelationPromises.)
+-- Demands 1 to 3, and document 02's requests, on the calls, for every text. Numbers of document 01 stand here as it prints them. (Demand 2 on
+-- relations is in RelationPromises.)
 -- Assumes nothing.
-use Prim.Native.Nat.{ℕ, _+_, _*_, _≤_, _<_}
+use Prim.Native.Nat.{ℕ, _+_, _-_, _*_, _≤_, _<_}
 use mathlib.Core.Path.{_≡_}
 use mathlib.Core.Bool.{not}
-use mathlib.Core.Logic.{_↔_}
+use mathlib.Core.Logic.{_↔_, _⊎_}
 use mathlib.Core.List.{List, [], _∷_, _++_, map, List·Memᴰ}
-use lib.ListN.{length, drop, getD}
+use lib.ListN.{length, take, drop, getD}
+use Rattle.hex.specs.Digits.{digitValue, Decimal, Capital, Digit, digitsOf}
 use Rattle.hex.specs.Lines.{NoLine, isLine, bytesOf}
+use Rattle.hex.specs.Letters.{SameButCase}
 use Rattle.policy.specs.Model.{Packet, Row, Table, rowAt, parentOf}
 use Rattle.policy.specs.Wellformed.{IsEntity, widths}
 use Rattle.base.specs.Truths.{Decides}
 use Rattle.relations.specs.Entities.{Tree}
 use Rattle.relations.specs.Groups.{SameGroup, Matches, Wins, Dead, winnerFrom}
 use Rattle.frames.specs.Kinds.{ofEntity, ofCap, ofFloor, ofFilter, ofRow, describe}
+use Rattle.reader.specs.Lines.{linesOf, restOf, textOf}
 use Rattle.reader.specs.Frames.{Frame, aRow, frameOf}
 use Rattle.reader.specs.Forms.{SaysFrame}
 use Rattle.base.specs.Checks.{Check}
@@ -31,11 +35,26 @@ use Rattle.analyser.specs.Calls.{countsOf, checkOf, linePart, saysDead, 
 
 -- ---- demand 1
 
+-- "pairs of digits 0-9 A-F", and request [1]: "A digit's value now holds for a-f as for A-F." Characters by their numbers in ASCII.
+pub record DigitValues : Type 0 where
+  pub decimal : (v : ℕ) → v < 10 → digitValue (48 + v) ≡ v
+  pub capital : (v : ℕ) → v < 6 → digitValue (65 + v) ≡ 10 + v
+  pub small : (v : ℕ) → v < 6 → digitValue (97 + v) ≡ 10 + v
+  -- a pair of digits is a byte
+  pub none : bytesOf [] ≡ []
+  pub pair : (a b : ℕ) (l : List ℕ) → Digit a → Digit b → bytesOf (a ∷ b ∷ l) ≡ (16 * digitValue a + digitValue b) ∷ bytesOf l
+  -- the two digits that are written of a byte stand for it, and are capitals
+  pub written : (b : ℕ) → b < 256 → bytesOf (digitsOf b) ≡ b ∷ []
+  pub capitals : (b c : ℕ) → b < 256 → List·Memᴰ c (digitsOf b) → Decimal c ⊎ Capital c
+
 -- "Every text that keeps the table rules of document 01 is accepted", and every other is refused.
 pub record Reading : Type 0 where
   pub accepts : (text : List ℕ) (t : Table) → (parse text ≡ returned t) ↔ KeepsRules text t
   pub refuses : (text : List ℕ) → ((t : Table) → KeepsRules text t → ⊥) → (number : ℕ) × (line : ℕ) × (parse text ≡ refusedBy number line)
+  -- what stands between line feeds, and after the last, as it was written
+  pub cut : (text : List ℕ) → textOf (linesOf text) ++ restOf text ≡ text
   -- what is a line, and what a line's bytes say
+  pub digits : DigitValues
   pub lines : (line : List ℕ) → Decides (not (isLine line)) (NoLine line)
   pub frames : (bs : List ℕ) (f : Frame) → (frameOf bs ≡ f) ↔ SaysFrame bs f
   -- "01 entity", "02 cap", "03 floor", "04 filter", "05 row"
@@ -168,6 +187,31 @@ pub record WinnerPromise (text : List ℕ) (t : Table) : Type 0 where
       ↔ ((i : ℕ) → i < length (t .rows) → SameGroup (rowAt t i) (rowAt t g) → Matches (parentOf t) (rowAt t i) a b p → ⊥)
   pub named : (g h a b : ℕ) (p : Packet) → g < length (t .rows) → h < length (t .rows) → SameGroup (rowAt t g) (rowAt t h)
       → winnerOf text g a b p ≡ winnerOf text h a b p
+
+-- ---- request [1]: small letters
+
+-- Row k's line of an accepted text, as it was written: the rows' lines are the last.
+abbrev pub rowLine : List ℕ → Table → ℕ → List ℕ
+rowLine text t k = getD (linesOf text) (length (linesOf text) - length (t .rows) + k) []
+
+-- "Strike and Line hand lines back as they were written, letters and all." (Of a text that is refused they hand back none: `RefusedText`.)
+pub record AsWritten (text : List ℕ) (t : Table) : Type 0 where
+  pub line : (k : ℕ) → k < length (t .rows) → linePart text k ≡ rowLine text t k
+  pub struck-lines : struckText text t ≡ textOf (take (length (linesOf text) - length (t .rows)) (linesOf text) ++ map (rowLine text t) (kept t))
+
+-- "Two texts that differ only in the case of letters must produce one list, one set of witnesses and one set of winners." Whatever they are,
+-- accepted or refused:
+pub record CasePromise (a b : List ℕ) : Type 0 where
+  -- the same table, or the same refusal with its line
+  pub read : parse a ≡ parse b
+  pub check : checkOf a ≡ checkOf b
+  pub list : (out : List ℕ) → (listOf a out ≡ listOf b out) × (listWritten a out ≡ listWritten b out)
+  pub witness : (k : ℕ) → witnessOf a k ≡ witnessOf b k
+  pub winner : (k e f : ℕ) (p : Packet) → winnerOf a k e f p ≡ winnerOf b k e f p
+  -- what Line and Strike hand back differs as the texts do
+  pub line : (k : ℕ) → SameButCase (linePart a k) (linePart b k)
+  pub strike : (out : List ℕ) → (strikeOf a out ≡ strikeOf b out) × SameButCase (strikeWritten a out) (strikeWritten b out)
+  pub struck-texts : (t : Table) → parse a ≡ returned t → SameButCase (struckText a t) (struckText b t)
 
 -- ---- List for C
 

@@ -4,3 +4,4 @@ pub mod Entries
 pub mod Lines
 pub mod Numbers
 pub mod Digits
+pub mod Letters

@@ -2,3 +2,4 @@
 pub mod Digits
 pub mod Lines
 pub mod Numbers
+pub mod Letters

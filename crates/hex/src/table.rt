@@ -1,4 +1,4 @@
-// The value of each of the 256 bytes as a digit, 16 where it is none.
+// The value of each of the 256 bytes as a digit, 16 where it is none. Digits and the characters next to them are named.
 pub const DIGITS: [u8; 256] = [
     16,
     16,
@@ -47,33 +47,31 @@ pub const DIGITS: [u8; 256] = [
     16,
     16,
     16,
-    16,
-    0,
-    1,
-    2,
-    3,
-    4,
-    5,
-    6,
-    7,
-    8,
-    9,
-    16,
-    16,
-    16,
+    16, // /
+    0, // 0
+    1, // 1
+    2, // 2
+    3, // 3
+    4, // 4
+    5, // 5
+    6, // 6
+    7, // 7
+    8, // 8
+    9, // 9
+    16, // :
     16,
     16,
     16,
     16,
-    10,
-    11,
-    12,
-    13,
-    14,
-    15,
     16,
-    16,
-    16,
+    16, // @
+    10, // A
+    11, // B
+    12, // C
+    13, // D
+    14, // E
+    15, // F
+    16, // G
     16,
     16,
     16,
@@ -98,12 +96,14 @@ pub const DIGITS: [u8; 256] = [
     16,
     16,
     16,
-    16,
-    16,
-    16,
-    16,
-    16,
-    16,
+    16, // `
+    10, // a
+    11, // b
+    12, // c
+    13, // d
+    14, // e
+    15, // f
+    16, // g
     16,
     16,
     16,

@@ -6,6 +6,7 @@ pub mod Takings
 pub mod Runs
 pub mod Wellformed
 pub mod Alike
+pub mod Letters
 pub mod Sequence
 pub mod Leads
 pub mod Rules

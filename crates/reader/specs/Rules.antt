@@ -27,7 +27,7 @@ framesOf t =
 pub record KeepsRules (text : List ℕ) (t : Table) : Type 0 where
   -- "each line ended by a line feed"
   pub ended : restOf text ≡ []
-  -- "pairs of digits 0-9 A-F"
+  -- "pairs of digits 0-9 A-F", or a-f
   pub digits : (l : List ℕ) → List·Memᴰ l (linesOf text) → isLine l ≡ true
   -- "One frame a line", in sequence
   pub frames : map (λ l. frameOf (bytesOf l)) (linesOf text) ≡ framesOf t

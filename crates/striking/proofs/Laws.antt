@@ -4,3 +4,4 @@ pub mod Tables
 pub mod Struck
 pub mod Texts
 pub mod Bytes
+pub mod Letters

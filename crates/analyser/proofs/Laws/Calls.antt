@@ -1,5 +1,5 @@
--- Laws of the calls that return a value of an accepted text's row: for a row that is there Line's answer is the line that says the row, Witness's
--- the verdict, and Winner's the winner; Winner's other answers, by what is not there.
+-- Laws of the calls that return a value of an accepted text's row: for a row that is there Line's answer is the line that says the row, as it was
+-- written, Witness's the verdict, and Winner's the winner; Winner's other answers, by what is not there.
 -- Assumes nothing.
 use mathlib.Core.Path.{_≡_, refl, ap, _∙_}
 use mathlib.Core.Logic.{_↔_, inl, inr}
@@ -7,7 +7,7 @@ use mathlib.Core.List.{List, [], _∷_}
 use Prim.Native.Nat.{ℕ, _+_, _-_, _≤_, _<_}
 use native.Mathlib.Decide.{decLt}
 use native.Mathlib.Omega.{arith}
-use lib.ListN.{length}
+use lib.ListN.{length, getD}
 use borrow.Author.Tests.{lt-ltb, le-ltb}
 use Rattle.base.specs.Checks.{Check}
 use Rattle.base.specs.Answers.{returned, refusedBy, given}
@@ -29,9 +29,13 @@ module _ (text : List ℕ) (t : Table) (e : parse text ≡ returned t) (k : ℕ)
     row-place : linesBefore 1 t + k ≡ length (linesOf text) - length (t .rows) + k
     row-place = let n = accepted-lines text t e in omega arith
 
-    pub line-row : RowLine t (linePart text k) (rowAt t k)
+    -- It is the line as it was written.
+    pub line-written : linePart text k ≡ getD (linesOf text) (length (linesOf text) - length (t .rows) + k) []
     unfolding linePart
-    line-row = rw e (rw (lt-ltb k (length (t .rows)) h, row-place) (accepted-row text t e k h))
+    line-written = rw e (rw (lt-ltb k (length (t .rows)) h, row-place))
+
+    pub line-row : RowLine t (linePart text k) (rowAt t k)
+    line-row = rw line-written (accepted-row text t e k h)
 
     pub witness-verdict : witnessOf text k ≡ returned (verdictOn t k)
     unfolding witnessOf

@@ -1,6 +1,6 @@
--- Demands 1 to 3 hold of the calls, for every text.
+-- Demands 1 to 3, and document 02's requests, hold of the calls, for every text.
 -- Assumes nothing.
-use Prim.Native.Nat.{ℕ, _<_}
+use Prim.Native.Nat.{ℕ, _+_, _<_}
 use native.Mathlib.Omega.{arith}
 use borrow.Author.Tests.{le-ltb}
 use mathlib.Core.Path.{_≡_, refl, sym, ap, _∙_}
@@ -14,10 +14,14 @@ use Rattle.relations.proofs.Laws.Tables.{table-tree}
 use Rattle.relations.proofs.Laws.Groups.{winner-group, winner-wins, winner-nobody, winner-named}
 use Rattle.base.specs.Answers.{returned, refusedBy}
 use Rattle.base.proofs.Laws.Decides.{decided, decides-and, decides-ltb}
+use Rattle.hex.specs.Letters.{SameButCase}
+use Rattle.hex.proofs.Laws.Digits.{decimal-value, capital-value, small-value, bytesOf-pair, byteOf-digits, digits-capital}
+use Rattle.hex.proofs.Laws.Lines.{noLine-decides}
 use Rattle.reader.specs.States.{parse}
 use Rattle.reader.proofs.Laws.Wellformed.{accepted-wellformed, refused-line}
 use Rattle.reader.proofs.Laws.Rules.{accepted-exactly, refused-otherwise}
-use Rattle.hex.proofs.Laws.Lines.{noLine-decides}
+use Rattle.reader.proofs.Laws.Texts.{text-cut}
+use Rattle.reader.proofs.Laws.Letters.{parse-case}
 use Rattle.reader.proofs.Laws.Forms.{frame-said}
 use Rattle.reader.proofs.Laws.Refused.{refused-exactly, accepted-faultless}
 use Rattle.search.specs.Search.{SearchResult, found, none}
@@ -34,20 +38,36 @@ use Rattle.listing.proofs.Laws.Puts.{bytes-none, bytes-more, length-bytes}
 use Rattle.striking.specs.Texts.{struckText}
 use Rattle.striking.proofs.Laws.Kept.{kept-rows, kept-exactly}
 use Rattle.striking.proofs.Laws.Struck.{struck-keeps}
-use Rattle.striking.proofs.Laws.Texts.{struck-parses}
+use Rattle.striking.proofs.Laws.Texts.{struck-written, struck-parses}
 use Rattle.striking.proofs.Laws.Bytes.{struck-shorter}
+use Rattle.striking.proofs.Laws.Letters.{struck-case}
 use Rattle.analyser.specs.Calls.{checkOf, linePart, givesPacket, witnessOf, outcomeOf, winnerOf, listOf, listWritten, strikeOf, strikeWritten, packed}
-use Rattle.analyser.specs.Promises.{Reading, RefusedText, AcceptedText, KindNumbers, ListPromise, WitnessPromise, StrikePromise, WinnerPromise, PackedPromise}
-use Rattle.analyser.proofs.Laws.Calls.{line-row, witness-verdict, winner-no-row, winner-no-entity, winner-found, winner-row, winner-none}
+use Rattle.analyser.specs.Promises.{DigitValues, Reading, RefusedText, AcceptedText, KindNumbers, ListPromise, WitnessPromise, StrikePromise, WinnerPromise, AsWritten, CasePromise, PackedPromise}
+use Rattle.analyser.proofs.Laws.Calls.{line-written, line-row, witness-verdict, winner-no-row, winner-no-entity, winner-found, winner-row, winner-none}
+use Rattle.analyser.proofs.Laws.Letters.{line-case, strike-case}
 use Rattle.analyser.proofs.Laws.Outputs.{no-room, call-short, call-whole, list-told, list-refused}
 
 -- ---- demand 1
+
+digit-values : DigitValues
+digit-values =
+    record {
+      decimal = λ v h. let e = decimal-value (48 + v) (omega arith, omega arith) in omega arith;
+      capital = λ v h. let e = capital-value (65 + v) (omega arith, omega arith) in omega arith;
+      small = λ v h. let e = small-value (97 + v) (omega arith, omega arith) in omega arith;
+      none = refl;
+      pair = bytesOf-pair;
+      written = λ b h. rw (byteOf-digits b h);
+      capitals = digits-capital;
+    }
 
 pub reads : Reading
 reads =
     record {
       accepts = accepted-exactly;
       refuses = refused-otherwise;
+      cut = text-cut;
+      digits = digit-values;
       lines = noLine-decides;
       frames = frame-said;
       kind-bytes = refl;
@@ -197,6 +217,26 @@ winner-promise text t e = record {
     | inr x ↦ winner-no-entity text t e g a b p j x ∙ sym (winner-no-entity text t e h a b p k x)
   ];
 }
+
+-- ---- request [1]
+
+pub as-written : (text : List ℕ) (t : Table) → parse text ≡ returned t → AsWritten text t
+as-written text t e = record { line = line-written text t e; struck-lines = struck-written text t e }
+
+pub case-promise : (a b : List ℕ) → SameButCase a b → CasePromise a b
+unfolding checkOf witnessOf winnerOf listOf listWritten
+case-promise a b h =
+    let e = parse-case a b h in
+    record {
+      read = e;
+      check = rw e;
+      list = λ out. rw e (refl, refl);
+      witness = λ k. rw e;
+      winner = λ k x y p. rw e;
+      line = line-case a b h;
+      strike = strike-case a b h;
+      struck-texts = λ t r. struck-case a b h t;
+    }
 
 -- ---- List for C
 

@@ -1,20 +1,63 @@
--- Laws of the digits that are written:
---   digitValue-digitOf, isDigit-digitOf: of a value below 16
---   byteOf-digits: of a byte
+-- Laws of digits that are read:
+--   decimal-value, capital-value, small-value: the value of 0-9, of A-F and of a-f
+--   bytesOf-pair: the byte of two digits
+-- and of digits that are written:
+--   digitValue-digitOf, isDigit-digitOf, digitOf-capital: of a value below 16
+--   byteOf-digits, digits-capital: of a byte
 --   length-lineOf, bytesOf-lineOf, allDigits-lineOf, isLine-lineOf: of some bytes
 -- That each byte of bs is below 256 is said as (i : ℕ) → getD bs i 0 < 256.
 -- Assumes nothing.
 use mathlib.Core.Path.{_≡_, refl}
 use mathlib.Core.Bool.{Bool, true}
-use mathlib.Core.List.{List, [], _∷_}
-use Prim.Native.Nat.{ℕ, suc, _*_, _/_, _%_, _<_}
+use mathlib.Core.Logic.{_⊎_, inl, inr}
+use mathlib.Core.List.{List, [], _∷_, List·Memᴰ, List·Memᴰ·not-nil, List·Memᴰ·cases-cons}
+use Prim.Native.Nat.{ℕ, suc, _+_, _-_, _*_, _/_, _%_, _<_}
+use native.Mathlib.Decide.{decLt}
 use native.Mathlib.Omega.{arith}
-use borrow.Author.Tests.{lt-ltb, ne-eqb, eq-eqb, eqb-true}
+use borrow.Author.Tests.{le-leb, lt-leb, lt-ltb, le-ltb, ne-eqb, eq-eqb, eqb-true}
 use lib.Dec.{eqb}
 use lib.ListN.{length, getD, replicate}
 use Rattle.hex.proofs.Laws.Table.{at}
-use Rattle.hex.specs.Digits.{digitValue, digitOf, isDigit, byteOf}
+use Rattle.hex.specs.Digits.{Decimal, Capital, Small, Digit, digitValue, digitOf, digitsOf, isDigit, byteOf}
 use Rattle.hex.specs.Lines.{allDigits, isLine, bytesOf, lineOf}
+
+-- ---- read
+
+module _ (c : ℕ) where
+  pub decimal-value : Decimal c → digitValue c ≡ c - 48
+  unfolding digitValue
+  decimal-value h = rw (le-leb 48 c (h .0), le-leb c 57 (h .1))
+
+  pub capital-value : Capital c → digitValue c ≡ c - 55
+  unfolding digitValue
+  capital-value h = rw (le-leb 48 c (omega arith), lt-leb c 57 (omega arith), le-leb 65 c (h .0), le-leb c 70 (h .1))
+
+  pub small-value : Small c → digitValue c ≡ c - 87
+  unfolding digitValue
+  small-value h =
+      rw (
+        le-leb 48 c (omega arith),
+        lt-leb c 57 (omega arith),
+        le-leb 65 c (omega arith),
+        lt-leb c 70 (omega arith),
+        le-leb 97 c (h .0),
+        le-leb c 102 (h .1),
+      )
+
+  digit-below : Digit c → digitValue c < 16
+  digit-below (inl h) = omega (arith, decimal-value h)
+  digit-below (inr (inl h)) = omega (arith, capital-value h)
+  digit-below (inr (inr h)) = omega (arith, small-value h)
+
+-- A pair of digits is 16 times the first, and the second.
+pub bytesOf-pair : (a b : ℕ) (l : List ℕ) → Digit a → Digit b → bytesOf (a ∷ b ∷ l) ≡ (16 * digitValue a + digitValue b) ∷ bytesOf l
+bytesOf-pair a b l h k =
+    let x = digit-below a h in
+    let y = digit-below b k in
+    let e : byteOf a b ≡ 16 * digitValue a + digitValue b = omega arith in
+    rw e
+
+-- ---- written
 
 -- The digit of v reads as v. (The entry at v is not looked at.)
 back : ℕ → ℕ → Bool
@@ -28,12 +71,30 @@ digitValue-digitOf v h = eqb-true _ _ (at back (replicate 16 0) refl v h)
 pub isDigit-digitOf : (v : ℕ) → v < 16 → isDigit (digitOf v) ≡ true
 isDigit-digitOf v h = rw (digitValue-digitOf v h, lt-ltb v 16 h)
 
+-- No small letter is written.
+pub digitOf-capital : (v : ℕ) → v < 16 → Decimal (digitOf v) ⊎ Capital (digitOf v)
+unfolding digitOf
+digitOf-capital v h =
+    elim (decLt v 10) [
+      | yes l ↦ rw (lt-ltb v 10 l) (inl (omega arith, omega arith))
+      | no l ↦ rw (le-ltb v 10 (omega arith)) (inr (omega arith, omega arith))
+    ]
+
 -- A byte's two digits read as the byte.
 pub byteOf-digits : (b : ℕ) → b < 256 → byteOf (digitOf (b / 16)) (digitOf (b % 16)) ≡ b
 byteOf-digits b h =
     let p : b / 16 < 16 = omega arith in
     let q : b % 16 < 16 = omega arith in
     rw (digitValue-digitOf (b / 16), digitValue-digitOf (b % 16)) (omega arith)
+
+pub digits-capital : (b c : ℕ) → b < 256 → List·Memᴰ c (digitsOf b) → Decimal c ⊎ Capital c
+digits-capital b c h m = elim (List·Memᴰ·cases-cons m) [
+  | inl e ↦ rw e (digitOf-capital (b / 16) (omega arith))
+  | inr r ↦ elim (List·Memᴰ·cases-cons r) [
+    | inl e ↦ rw e (digitOf-capital (b % 16) (omega arith))
+    | inr n ↦ absurd (List·Memᴰ·not-nil n)
+  ]
+]
 
 pub length-lineOf : (bs : List ℕ) → length (lineOf bs) ≡ 2 * length bs
 length-lineOf [] = refl

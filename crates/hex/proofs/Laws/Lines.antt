@@ -22,7 +22,7 @@ use Rattle.base.specs.Truths.{pick, Decides}
 use Rattle.base.proofs.Laws.Decides.{decides-true, decides-false, decides-as, decides-leb, decides-eqb, decides-not, decides-and, decides-not-and}
 use Rattle.base.proofs.Laws.Each.{one-fails}
 use Rattle.base.proofs.Laws.Lists.{length-none}
-use Rattle.hex.specs.Digits.{Digit, digitValue, isDigit, byteOf}
+use Rattle.hex.specs.Digits.{Decimal, Capital, Small, Digit, digitValue, isDigit, byteOf}
 use Rattle.hex.specs.Lines.{NoLine, empty, other, odd, allDigits, isLine, bytesOf}
 
 -- One place more is two characters more.
@@ -105,14 +105,17 @@ bytesOf-line (a ∷ b ∷ l) h = refl
 digit-decides : (c : ℕ) → Decides (isDigit c) (Digit c)
 unfolding digitValue
 digit-decides c =
-    go (leb 48 c && leb c 57) (leb 65 c && leb c 70) (decides-and _ _ (decides-leb 48 c) (decides-leb c 57))
+    go (leb 48 c && leb c 57) (leb 65 c && leb c 70) (leb 97 c && leb c 102) (decides-and _ _ (decides-leb 48 c) (decides-leb c 57))
     (decides-and _ _ (decides-leb 65 c) (decides-leb c 70))
+    (decides-and _ _ (decides-leb 97 c) (decides-leb c 102))
   where
-    go : (a b : Bool) → Decides a ((48 ≤ c) × (c ≤ 57)) → Decides b ((65 ≤ c) × (c ≤ 70))
-        → Decides (ltb (pick a (c - 48) (pick b (c - 55) 16)) 16) (Digit c)
-    go true b d e = let h = d .yes refl in rw (lt-ltb (c - 48) 16 (omega arith)) (decides-true (inl h))
-    go false true d e = let h = e .yes refl in rw (lt-ltb (c - 55) 16 (omega arith)) (decides-true (inr h))
-    go false false d e = decides-false (λ s. elim s [ inl h ↦ d .no refl h | inr h ↦ e .no refl h ])
+    go : (x y z : Bool) → Decides x (Decimal c) → Decides y (Capital c) → Decides z (Small c)
+        → Decides (ltb (pick x (c - 48) (pick y (c - 55) (pick z (c - 87) 16))) 16) (Digit c)
+    go true y z d e f = let h = d .yes refl in rw (lt-ltb (c - 48) 16 (omega arith)) (decides-true (inl h))
+    go false true z d e f = let h = e .yes refl in rw (lt-ltb (c - 55) 16 (omega arith)) (decides-true (inr (inl h)))
+    go false false true d e f = let h = f .yes refl in rw (lt-ltb (c - 87) 16 (omega arith)) (decides-true (inr (inr h)))
+    go false false false d e f =
+        decides-false (λ s. elim s [ inl h ↦ d .no refl h | inr r ↦ elim r [ inl h ↦ e .no refl h | inr h ↦ f .no refl h ] ])
 
 -- Some character is no digit.
 abbrev Other : List ℕ → Type 0

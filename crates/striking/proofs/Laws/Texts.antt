@@ -1,11 +1,11 @@
 -- An accepted text with some of its rows' lines, by their numbers, is accepted, and its table has those rows. So is the struck text, whose
--- table is the struck table.
+-- table is the struck table; it has the text's own lines, as they were written.
 -- Assumes nothing.
 use Prim.Native.Nat.{ℕ, suc, _+_, _-_, _≤_, _<_}
 use mathlib.Core.Path.{_≡_}
-use mathlib.Core.List.{List, [], _∷_, map}
+use mathlib.Core.List.{List, [], _∷_, _++_, map}
 use native.Mathlib.Omega.{arith}
-use lib.ListN.{length, getD, length-map}
+use lib.ListN.{length, getD, take, length-map}
 use Rattle.base.specs.Answers.{returned}
 use Rattle.policy.specs.Limits.{mostRows}
 use Rattle.policy.specs.Model.{Table, withRows, linesBefore, rowAt}
@@ -25,6 +25,12 @@ module _ (text : List ℕ) (t : Table) (e : parse text ≡ returned t) where
   -- the rows are the last lines
   before : length (linesOf text) - length (t .rows) ≡ linesBefore 1 t
   before = let n = accepted-lines text t e in omega arith
+
+  pub struck-written : struckText text t
+      ≡ textOf (take (length (linesOf text) - length (t .rows)) (linesOf text)
+      ++ map (λ i. getD (linesOf text) (length (linesOf text) - length (t .rows) + i) []) (kept t))
+  unfolding struckText
+  struck-written = rw before
 
   row-line : (k : ℕ) → k < length (t .rows) → RowLine t (lineAt k) (rowAt t k)
   row-line k h = rw before at (accepted-row text t e k h)
