@@ -35,6 +35,14 @@ use Rattle.analyser.specs.Calls.{countsOf, checkOf, linePart, saysDead, 
 
 -- ---- demand 1
 
+-- "each line ended by a line feed", which is 10: a text is its lines, each with its line feed, and what stands after the last, byte for byte.
+pub record Cut (text : List ℕ) : Type 0 where
+  pub whole : textOf (linesOf text) ++ restOf text ≡ text
+  pub ended : (textOf [] ≡ []) × ((l : List ℕ) (ls : List (List ℕ)) → textOf (l ∷ ls) ≡ l ++ (10 ∷ textOf ls))
+  -- no other line feed is in it
+  pub lines : (l : List ℕ) → List·Memᴰ l (linesOf text) → List·Memᴰ 10 l → ⊥
+  pub rest : List·Memᴰ 10 (restOf text) → ⊥
+
 -- "pairs of digits 0-9 A-F", and request [1]: "A digit's value now holds for a-f as for A-F." Characters by their numbers in ASCII.
 pub record DigitValues : Type 0 where
   pub decimal : (v : ℕ) → v < 10 → digitValue (48 + v) ≡ v
@@ -51,8 +59,7 @@ pub record DigitValues : Type 0 where
 pub record Reading : Type 0 where
   pub accepts : (text : List ℕ) (t : Table) → (parse text ≡ returned t) ↔ KeepsRules text t
   pub refuses : (text : List ℕ) → ((t : Table) → KeepsRules text t → ⊥) → (number : ℕ) × (line : ℕ) × (parse text ≡ refusedBy number line)
-  -- what stands between line feeds, and after the last, as it was written
-  pub cut : (text : List ℕ) → textOf (linesOf text) ++ restOf text ≡ text
+  pub cut : (text : List ℕ) → Cut text
   -- what is a line, and what a line's bytes say
   pub digits : DigitValues
   pub lines : (line : List ℕ) → Decides (not (isLine line)) (NoLine line)

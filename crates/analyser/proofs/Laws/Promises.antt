@@ -20,7 +20,7 @@ use Rattle.hex.proofs.Laws.Lines.{noLine-decides}
 use Rattle.reader.specs.States.{parse}
 use Rattle.reader.proofs.Laws.Wellformed.{accepted-wellformed, refused-line}
 use Rattle.reader.proofs.Laws.Rules.{accepted-exactly, refused-otherwise}
-use Rattle.reader.proofs.Laws.Texts.{text-cut}
+use Rattle.reader.proofs.Laws.Texts.{text-cut, lines-no-feed, rest-no-feed}
 use Rattle.reader.proofs.Laws.Letters.{parse-case}
 use Rattle.reader.proofs.Laws.Forms.{frame-said}
 use Rattle.reader.proofs.Laws.Refused.{refused-exactly, accepted-faultless}
@@ -66,7 +66,8 @@ reads =
     record {
       accepts = accepted-exactly;
       refuses = refused-otherwise;
-      cut = text-cut;
+      cut = λ text.
+          record { whole = text-cut text; ended = (refl, λ l ls. refl); lines = lines-no-feed text; rest = rest-no-feed text };
       digits = digit-values;
       lines = noLine-decides;
       frames = frame-said;

@@ -2,13 +2,14 @@
 --   Every, NotFeed, NoFeed, AllNoFeed: characters, and lines of them, with no line feed
 --   lines-written, rest-written: the text of such lines has those lines, and nothing after them
 --   text-cut, lines-clean: every text is the text of its lines, which are such lines, and what stands after them
+--   lines-no-feed, rest-no-feed: no line feed is in a line of a text, nor in what stands after them
 --   line-clean: a line of digits is such a line
 --   accepted-text-other-rows, accepted-text-more-rows: other rows in place of an accepted text's own, and rows after it
 -- Assumes nothing.
 use mathlib.Core.Path.{_≡_, refl, ap, sym, _∙_}
 use mathlib.Core.Logic.{inl, inr}
 use mathlib.Core.Bool.{true, false≢true, and-eq-true-iff}
-use mathlib.Core.List.{List, [], _∷_, _++_, map, map-append, append-nil, append-assoc, List·Memᴰ·head, List·Memᴰ·tail, List·Memᴰ·append-cases}
+use mathlib.Core.List.{List, [], _∷_, _++_, map, map-append, append-nil, append-assoc, List·Memᴰ, List·Memᴰ·head, List·Memᴰ·tail, List·Memᴰ·not-nil, List·Memᴰ·cases-cons, List·Memᴰ·append-cases}
 use Prim.Native.Nat.{ℕ, _+_, _-_, _<_, _≤_}
 use native.Mathlib.Decide.{ℕ-discrete}
 use native.Mathlib.Omega.{arith}
@@ -42,6 +43,10 @@ module _ {A : Type 0} (P : A → Type 0) where
   every-append : (a b : List A) → Every a → Every b → Every (a ++ b)
   every-append [] b h k = k
   every-append (x ∷ a) b h k = (h .0, every-append a b (h .1) k)
+
+  every-in : (l : List A) → Every l → (x : A) → List·Memᴰ x l → P x
+  every-in [] h x m = absurd (List·Memᴰ·not-nil m)
+  every-in (a ∷ l) h x m = elim (List·Memᴰ·cases-cons m) [ inl e ↦ rw e (h .0) | inr k ↦ every-in l (h .1) x k ]
 
 abbrev pub NotFeed : ℕ → Type 0
 NotFeed c = c ≡ lineFeed → ⊥
@@ -113,6 +118,22 @@ lines-clean text =
     (λ line text f h. (h, f tt))
     (λ line c text n f h. rw (ne-eqb c lineFeed n, linesFrom) (f (every-append NotFeed line (c ∷ []) h (n, tt))))
     [] text tt
+
+pub lines-no-feed : (text l : List ℕ) → List·Memᴰ l (linesOf text) → List·Memᴰ lineFeed l → ⊥
+lines-no-feed text l m k = every-in NotFeed l (every-in NoFeed (linesOf text) (lines-clean text) l m) lineFeed k refl
+
+-- Nor has what stands after them.
+rest-clean : (text : List ℕ) → NoFeed (restOf text)
+unfolding restFrom
+rest-clean text =
+    by-characters (λ line text. NoFeed line → NoFeed (restFrom line text))
+    (λ line h. h)
+    (λ line text f h. f tt)
+    (λ line c text n f h. rw (ne-eqb c lineFeed n, restFrom) (f (every-append NotFeed line (c ∷ []) h (n, tt))))
+    [] text tt
+
+pub rest-no-feed : (text : List ℕ) → List·Memᴰ lineFeed (restOf text) → ⊥
+rest-no-feed text k = every-in NotFeed (restOf text) (rest-clean text) lineFeed k refl
 
 -- ---- lines of digits
 
