@@ -1,4 +1,4 @@
-//! The four calls that are measured, of the static libraries and of the second implementation. Each reads its text.
+//! The five calls that are measured, of the static libraries and of the second implementation. Each reads its text.
 
 use crate::calls::{write, Reading};
 use crate::frames;
@@ -9,6 +9,14 @@ extern "C" {
     fn timed_check(text: *const u8, len: usize) -> u64;
     fn timed_witness(text: *const u8, len: usize, row: usize) -> u64;
     fn timed_strike(text: *const u8, len: usize, out: *mut u8, out_len: usize) -> u64;
+    fn timed_join(
+        text: *const u8,
+        len: usize,
+        i: usize,
+        j: usize,
+        out: *mut u8,
+        out_len: usize,
+    ) -> u64;
 }
 
 /// A buffer of this many bytes holds any list and any struck text.
@@ -20,9 +28,16 @@ pub enum Call {
     List,
     Witness,
     Strike,
+    Join,
 }
 
-pub const CALLS: [Call; 4] = [Call::Check, Call::List, Call::Witness, Call::Strike];
+pub const CALLS: [Call; 5] = [
+    Call::Check,
+    Call::List,
+    Call::Witness,
+    Call::Strike,
+    Call::Join,
+];
 
 /// A text and the number of its rows.
 pub struct Text {
@@ -40,7 +55,7 @@ impl Text {
     }
 
     /// What the static library answers: 0 for a text that Check accepts, List's count, Witness of the last row as 0 or, where it
-    /// is dead, 1, and the length of Strike's text.
+    /// is dead, 1, the length of Strike's text, and that of the line of the last row joined with itself.
     pub fn here(&self, call: Call, out: &mut [u8]) -> u64 {
         let (text, len) = (self.bytes.as_ptr(), self.bytes.len());
         // The slices are not null and have the lengths given.
@@ -50,6 +65,10 @@ impl Text {
                 Call::List => lainukesk_list(text, len, out.as_mut_ptr(), out.len()),
                 Call::Witness => timed_witness(text, len, self.rows - 1),
                 Call::Strike => timed_strike(text, len, out.as_mut_ptr(), out.len()),
+                Call::Join => {
+                    let last = self.rows - 1;
+                    timed_join(text, len, last, last, out.as_mut_ptr(), out.len())
+                }
             }
         }
     }
@@ -69,6 +88,11 @@ impl Text {
                 let struck = reading.strike()?;
                 write(&struck, out)?;
                 struck.len() as u64
+            }
+            Call::Join => {
+                let line = reading.join(self.rows - 1, self.rows - 1)?;
+                write(&line, out)?;
+                line.len() as u64
             }
         })
     }

@@ -24,6 +24,8 @@ mod dead;
 mod draft;
 #[path = "../tests/second/frames.rs"]
 mod frames;
+#[path = "../tests/second/join.rs"]
+mod join;
 #[path = "../tests/second/kinds.rs"]
 mod kinds;
 #[path = "../tests/second/pairs.rs"]
@@ -62,7 +64,7 @@ const SIZES: [usize; 4] = [8, 16, 32, 64];
 struct Measured {
     name: &'static str,
     text: Text,
-    times: [[Duration; 2]; 4],
+    times: [[Duration; 2]; 5],
 }
 
 /// What was to be reached and what was, and whether it is enough.

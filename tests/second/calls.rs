@@ -1,6 +1,8 @@
-//! The six calls on a text, with document 01's refusals.
+//! The seven calls on a text, with their refusals.
 
 use crate::dead;
+use crate::frames::row_line;
+use crate::join::joined;
 use crate::kinds::{self, Entry};
 use crate::probes::Probe;
 use crate::reader::{is_entity, read};
@@ -13,6 +15,11 @@ const NO_SUCH_ROW: Refusal = Refusal { number: 9, line: 0 };
 /// The refusal of a probe whose a or b is no entity.
 const NO_SUCH_ENTITY: Refusal = Refusal {
     number: 10,
+    line: 0,
+};
+/// The refusal of two rows that have no joined one.
+const NOT_ALIKE: Refusal = Refusal {
+    number: 11,
     line: 0,
 };
 
@@ -78,6 +85,13 @@ impl<'t> Reading<'t> {
             return Err(NO_SUCH_ENTITY);
         }
         Ok(dead::winner(table, row, probe.a, probe.b, &probe.packet))
+    }
+
+    /// The line of the row that joins two rows, without line feed.
+    pub fn join(&self, i: usize, j: usize) -> Result<Vec<u8>, Refusal> {
+        let table = self.table_with_row(i.max(j))?;
+        let row = joined(table, i, j).ok_or(NOT_ALIKE)?;
+        Ok(row_line(&row))
     }
 
     /// The table of an accepted text.

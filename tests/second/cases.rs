@@ -1,29 +1,29 @@
-//! Seeded texts, each with the probes to try on it.
+//! Seeded texts, each with the questions to ask of it.
 
 use crate::damage::damaged;
 use crate::draft::Scale;
 use crate::frames::{lines, text};
 use crate::letters::recased;
 use crate::long::long;
-use crate::probes::{probes, Probe};
+use crate::questions::{questions, Questions};
 use crate::random::Random;
 use crate::shapes::table;
 
-/// A text, the same in another case of its letters, its probes, and whether every probe of it can be tried.
+/// A text, the same in another case of its letters, its questions, and whether every probe of it can be tried.
 pub struct Case {
     pub text: Vec<u8>,
     pub recased: Vec<u8>,
-    pub probes: Vec<Probe>,
+    pub questions: Questions,
     pub tiny: bool,
 }
 
 impl Case {
-    /// A case of the text and probes alone.
-    pub fn of_text(text: &[u8], probes: &[Probe]) -> Case {
+    /// A case of the text and questions alone.
+    pub fn of_text(text: &[u8], questions: &Questions) -> Case {
         Case {
             text: text.to_vec(),
             recased: text.to_vec(),
-            probes: probes.to_vec(),
+            questions: questions.clone(),
             tiny: false,
         }
     }
@@ -50,7 +50,7 @@ pub fn case(seed: u64, number: u64) -> Case {
     Case {
         recased: recased(random, &text),
         text: recased(random, &text),
-        probes: probes(random, &table),
+        questions: questions(random, &table),
         tiny,
     }
 }

@@ -7,7 +7,9 @@ use crate::library;
 use crate::printed::{self, Answers, MOST_INPUT};
 use crate::programs::{name, piped, Programs};
 use crate::promises;
+use crate::questions::Questions;
 use crate::reader::read;
+use crate::upper;
 use std::path::Path;
 use std::sync::atomic::{AtomicU64, Ordering};
 use std::sync::{Mutex, MutexGuard, PoisonError};
@@ -173,7 +175,7 @@ fn compare_answers(programs: &Programs, cases: &[(u64, Case)]) -> Result<Vec<Ans
     let mut rest = &printed[..];
     let mut proved = Vec::new();
     for (place, (number, case)) in cases.iter().enumerate() {
-        let second = printed::answers(&name(place), &case.text, &case.probes);
+        let second = printed::answers(&name(place), &case.text, &case.questions);
         let mut same = |call: &str, second: &[u8]| match rest.strip_prefix(second) {
             Some(after) => {
                 let proved = rest[..second.len()].to_vec();
@@ -193,6 +195,7 @@ fn compare_answers(programs: &Programs, cases: &[(u64, Case)]) -> Result<Vec<Ans
             witnesses: same("Witness", &second.witnesses)?,
             struck: same("Strike", &second.struck)?,
             winners: same("Winner", &second.winners)?,
+            joins: same("Join", &second.joins)?,
         });
     }
     if rest.is_empty() {
@@ -221,7 +224,7 @@ fn check_letters(
 ) -> Result<(), Difference> {
     let recased: Vec<(u64, Case)> = cases
         .iter()
-        .map(|(number, case)| (*number, Case::of_text(&case.recased, &case.probes)))
+        .map(|(number, case)| (*number, Case::of_text(&case.recased, &case.questions)))
         .collect();
     let others =
         compare_answers(programs, &recased).map_err(|difference| difference.of("recased"))?;
@@ -234,7 +237,7 @@ fn check_letters(
     Ok(())
 }
 
-/// Holds demand 3 against the answers on the tiny tables and on their struck texts.
+/// Holds demand 3 against the answers on the tiny tables and on their struck texts, and what is promised of Join.
 fn check_promises(
     programs: &Programs,
     cases: &[(u64, Case)],
@@ -247,13 +250,44 @@ fn check_promises(
         .collect();
     let struck: Vec<(u64, Case)> = tiny
         .iter()
-        .map(|((number, _), answers)| (*number, Case::of_text(&answers.struck, &[])))
+        .map(|((number, _), answers)| {
+            (
+                *number,
+                Case::of_text(&answers.struck, &Questions::default()),
+            )
+        })
         .collect();
     let after = compare_answers(programs, &struck).map_err(|difference| difference.of("struck"))?;
+    check_extended(programs, &tiny)?;
     for (((number, case), before), after) in tiny.into_iter().zip(&after) {
-        promises::check(&case.text, &case.probes, before, after).map_err(|broken| Difference {
+        promises::check(&case.text, &case.questions.probes, before, after)
+            .and_then(|()| upper::check(&case.text, &case.questions.couples, before))
+            .map_err(|broken| Difference {
+                number: *number,
+                told: broken,
+            })?;
+    }
+    Ok(())
+}
+
+/// Compares what `answers` prints of the texts with a line that Join wrote added to them, which are to be accepted.
+fn check_extended(
+    programs: &Programs,
+    tiny: &[(&(u64, Case), &Answers)],
+) -> Result<(), Difference> {
+    let extended: Vec<(u64, Case)> = tiny
+        .iter()
+        .filter_map(|((number, case), answers)| {
+            let text = upper::extended(&case.text, answers)?;
+            Some((*number, Case::of_text(&text, &Questions::default())))
+        })
+        .collect();
+    let after =
+        compare_answers(programs, &extended).map_err(|difference| difference.of("extended"))?;
+    for ((number, case), answers) in extended.iter().zip(&after) {
+        upper::check_extended(&case.text, answers).map_err(|told| Difference {
             number: *number,
-            told: broken,
+            told,
         })?;
     }
     Ok(())

@@ -1,7 +1,6 @@
 //! What is told where answers part.
 
 use crate::cases::case;
-use crate::probes::probe_lines;
 
 /// The number of the text on which answers part, and what is to be told of it.
 pub struct Difference {
@@ -30,16 +29,16 @@ impl Difference {
         }
     }
 
-    /// The difference with the seed's text, the same in another case, and its probes.
+    /// The difference with the seed's text, the same in another case, and its questions.
     pub fn report(&self, seed: u64) -> String {
         let case = case(seed, self.number);
         format!(
-            "text {} of seed {seed}: {}\nthe text:\n{}the same, recased:\n{}its probes:\n{}",
+            "text {} of seed {seed}: {}\nthe text:\n{}the same, recased:\n{}its questions:\n{}",
             self.number,
             self.told,
             shown(&case.text),
             shown(&case.recased),
-            shown(&probe_lines(&case.probes))
+            shown(&case.questions.lines())
         )
     }
 }

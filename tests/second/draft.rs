@@ -2,12 +2,15 @@
 
 use crate::random::Random;
 use crate::reader::{MOST_ENTITIES, MOST_GATEWAYS, TECHNOLOGIES};
-use crate::relations::{lineage, root};
+use crate::relations::{above, lineage, root};
 use crate::table::{Coefficients, Entity, Range, Row, Selector, Table};
 use crate::table::{FIELDS, NONE, WIDTHS};
 
 /// How many roots most ends and gateways are drawn from, so that rows meet.
 pub const BUSY_ROOTS: usize = 5;
+
+/// How many entities are drawn to find kin.
+const KIN_DRAWS: usize = 4;
 
 /// How large a table is.
 #[derive(Clone, Copy, PartialEq, Eq)]
@@ -74,7 +77,7 @@ pub fn draft(random: &mut Random, scale: Scale) -> Draft<'_> {
     }
 }
 
-/// Lawful entities: roots alone, bushes or deep trees.
+/// Lawful entities: roots alone, bushes, deep trees, or forks among them.
 fn entities(random: &mut Random, scale: Scale) -> Vec<Entity> {
     let count = match random.below(10) {
         _ if scale == Scale::Tiny => random.between(2, 5),
@@ -87,7 +90,11 @@ fn entities(random: &mut Random, scale: Scale) -> Vec<Entity> {
     let root_percent = random.pick(&[15, 30, 30, 60, 100]);
     let deep_percent = random.pick(&[20, 60, 95]);
     let sound_percent = random.pick(&[60, 100, 100]);
-    let mut entities: Vec<Entity> = Vec::new();
+    let mut entities = if random.chance(30) {
+        forks()
+    } else {
+        Vec::new()
+    };
     while entities.len() < count {
         let last = entities.len().checked_sub(1);
         let parent = match last {
@@ -120,6 +127,18 @@ fn entities(random: &mut Random, scale: Scale) -> Vec<Entity> {
         entities.push(entity);
     }
     entities
+}
+
+/// Two roots, one of them with a fork at it and another below that.
+fn forks() -> Vec<Entity> {
+    let parents_and_layers = [(NONE, 0), (0, 2), (1, 3), (1, 5), (0, 3), (NONE, 0)];
+    parents_and_layers
+        .map(|(parent, layer)| Entity {
+            parent,
+            layer,
+            mask: if parent == NONE { 0x7E } else { 0 },
+        })
+        .to_vec()
 }
 
 /// A layer greater than the parent's, mostly the next.
@@ -256,6 +275,17 @@ impl Draft<'_> {
         }
     }
 
+    /// A root other than the entity's, if there is one.
+    pub fn other_root(&mut self, entity: u8) -> u8 {
+        let top = root(&self.table, entity);
+        let others: Vec<u8> = self.roots.iter().copied().filter(|&r| r != top).collect();
+        if others.is_empty() {
+            top
+        } else {
+            self.random.pick(&others)
+        }
+    }
+
     /// An entity of the root.
     pub fn under(&mut self, top: u8) -> u8 {
         let members: Vec<u8> = (0..self.table.entities.len() as u8)
@@ -282,16 +312,35 @@ impl Draft<'_> {
         }
     }
 
+    /// Two entities of one root, neither above the other, if some drawn at random are so.
+    pub fn kin(&mut self) -> Option<(u8, u8)> {
+        let count = self.table.entities.len();
+        let drawn = [(); KIN_DRAWS].map(|()| self.random.below(count) as u8);
+        let table = &self.table;
+        let pairs: Vec<(u8, u8)> = drawn
+            .iter()
+            .flat_map(|&one| (0..count as u8).map(move |other| (one, other)))
+            .filter(|&(one, other)| root(table, one) == root(table, other))
+            .filter(|&(one, other)| !above(table, one, other) && !above(table, other, one))
+            .collect();
+        if pairs.is_empty() {
+            None
+        } else {
+            Some(self.random.pick(&pairs))
+        }
+    }
+
     /// A technology, IPsec most often.
     pub fn technology(&mut self) -> u8 {
         self.random.pick(&[0, 1, 2, 3, 3, 3, 4, 5, 6])
     }
 
-    /// No, few or eight gateways.
+    /// No, few, many or eight gateways.
     fn gateways(&mut self) -> Vec<u8> {
         let count = match self.random.below(20) {
             0..=11 => 0,
-            12..=18 => self.random.between(1, 3),
+            12..=17 => self.random.between(1, 3),
+            18 => self.random.between(4, MOST_GATEWAYS - 1),
             _ => MOST_GATEWAYS,
         };
         (0..count).map(|_| self.root()).collect()

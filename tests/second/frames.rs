@@ -51,6 +51,11 @@ fn filter_frame(filter: &Filter) -> Vec<u8> {
     frame
 }
 
+/// The digits of a row's frame.
+pub fn row_line(row: &Row) -> Vec<u8> {
+    digits(&row_frame(row))
+}
+
 /// The bytes of a row's frame.
 fn row_frame(row: &Row) -> Vec<u8> {
     let mut frame = vec![5, row.holder, row.source, row.destination, row.technology];

@@ -59,6 +59,7 @@ pub fn check(one: &Answers, other: &Answers) -> Result<(), String> {
         ("Witness", one.witnesses == other.witnesses),
         ("Strike", same_but_case(&one.struck, &other.struck)),
         ("Winner", one.winners == other.winners),
+        ("Join", one.joins == other.joins),
     ]
     .into_iter()
     .find(|&(_, same)| !same);
@@ -73,7 +74,9 @@ pub fn check(one: &Answers, other: &Answers) -> Result<(), String> {
 #[cfg(test)]
 mod tests {
     use super::*;
+    use crate::couples::Couple;
     use crate::printed::answers;
+    use crate::questions::Questions;
 
     const CAPITALS: &[u8] = b"01FF007E\n0201ABCDEF\n";
 
@@ -104,16 +107,42 @@ mod tests {
     }
 
     #[test]
+    fn joined_lines_are_in_capitals() {
+        let capitals =
+            b"01FF007E\n0201FFFFFF\n0202FFFFFF\n0203FFFFFF\n0204FFFFFF\n0205FFFFFF\n0206FFFFFF\n\
+            03000000\n05000000030A0B0C0A0A0A0A0B0B0B0B0C0C0C0C0D0D0D0D0E0E0E0F0F0F0FFF00FF0100\n";
+        let small = capitals.to_ascii_lowercase();
+        let questions = Questions {
+            couples: vec![Couple {
+                i: 0,
+                j: 0,
+                room: 74,
+            }],
+            ..Questions::default()
+        };
+        let of_capitals = answers("text", capitals, &questions);
+        let mut of_small = answers("text", &small, &questions);
+        assert_eq!(
+            of_capitals.joins,
+            b"48 05000000030A0B0C0A0A0A0A0B0B0B0B0C0C0C0C0D0D0D0D0E0E0E0F0F0F0FFF00FF0100..\n"
+        );
+        assert!(check(&of_capitals, &of_small).is_ok());
+        of_small.joins.make_ascii_lowercase();
+        assert!(check(&of_capitals, &of_small).is_err());
+    }
+
+    #[test]
     fn answers_that_differ_are_found() {
-        let right = || answers("text", b"01FF007E\n", &[]);
+        let right = || answers("text", b"01FF007E\n", &Questions::default());
         assert!(check(&right(), &right()).is_ok());
-        let all_alter: [fn(&mut Answers); 6] = [
+        let all_alter: [fn(&mut Answers); 7] = [
             |answers| answers.check = b"text 010000\n".to_vec(),
             |answers| answers.lines = b"05\n".to_vec(),
             |answers| answers.list.clear(),
             |answers| answers.witnesses = b"dead\n".to_vec(),
             |answers| answers.struck[1] = b'9',
             |answers| answers.winners = b"00\n".to_vec(),
+            |answers| answers.joins = b"!0900 \n".to_vec(),
         ];
         for (place, alter) in all_alter.into_iter().enumerate() {
             let mut wrong = right();

@@ -1,18 +1,20 @@
-//! A second implementation of document 01, and the comparison of the product with it.
+//! A second implementation of the documents, and the comparison of the product with it.
 //!
-//! second answers TEXT PROBES ...            what the product's program `answers` prints of these files
+//! second answers TEXT QUESTIONS ...         what the product's program `answers` prints of these files
 //! second compare SEED COUNT BINARIES        compares the programs in a directory, and the static library, on seeded texts
-//! second write SEED NUMBER TEXT PROBES      writes one of these texts and its probes to files
+//! second write SEED NUMBER TEXT QUESTIONS   writes one of these texts and its questions to files
 
 mod calls;
 mod cases;
 mod chains;
 mod compare;
+mod couples;
 mod damage;
 mod dead;
 mod differences;
 mod draft;
 mod frames;
+mod join;
 mod kinds;
 mod letters;
 mod library;
@@ -22,6 +24,7 @@ mod printed;
 mod probes;
 mod programs;
 mod promises;
+mod questions;
 mod random;
 mod reader;
 mod relations;
@@ -29,8 +32,9 @@ mod shapes;
 mod table;
 #[cfg(test)]
 mod tests;
+mod upper;
 
-use probes::Probe;
+use questions::Questions;
 use std::io::Write;
 use std::path::Path;
 use std::process::ExitCode;
@@ -69,29 +73,25 @@ fn run(words: &[&str]) -> Result<(), String> {
             println!("the same on all {count} texts");
             Ok(())
         }
-        ["write", seed, text_number, text, probes] => {
+        ["write", seed, text_number, text, questions] => {
             let case = cases::case(number(seed)?, number(text_number)?);
-            programs::write_files(&case, Path::new(text), Path::new(probes))
+            programs::write_files(&case, Path::new(text), Path::new(questions))
         }
         _ => Err(
-            "answers TEXT PROBES ..., compare SEED COUNT BINARIES or write SEED NUMBER TEXT PROBES"
+            "answers TEXT QUESTIONS ..., compare SEED COUNT BINARIES or write SEED NUMBER TEXT QUESTIONS"
                 .into(),
         ),
     }
 }
 
 /// What `answers` prints of two files in the directory.
-fn answers(directory: &Path, text: &str, probes: &str) -> Result<Vec<u8>, String> {
+fn answers(directory: &Path, text: &str, questions: &str) -> Result<Vec<u8>, String> {
     let contents = |file: &str| {
         std::fs::read(directory.join(file)).map_err(|error| format!("{file}: {error}"))
     };
-    let probe_lines = contents(probes)?;
-    let probes = probe_lines
-        .split_inclusive(|&c| c == b'\n')
-        .map(|line| Probe::read(line.strip_suffix(b"\n")?))
-        .collect::<Option<Vec<Probe>>>()
-        .ok_or(format!("{probes} has a line that is no probe"))?;
-    Ok(printed::answers(text, &contents(text)?, &probes).all())
+    let questions = Questions::read(&contents(questions)?)
+        .ok_or(format!("{questions} has a line that is no question"))?;
+    Ok(printed::answers(text, &contents(text)?, &questions).all())
 }
 
 /// The word as a number.

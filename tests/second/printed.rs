@@ -1,11 +1,15 @@
 //! What the product's programs print: `answers`, `rowlist` and `strike`.
 
-use crate::calls::Reading;
+use crate::calls::{write, Reading};
+use crate::couples::Couple;
 use crate::frames::digits;
 use crate::kinds::Entry;
-use crate::probes::{packet_digits, Probe};
+use crate::probes::packet_digits;
+use crate::questions::Questions;
 use crate::table::{Packet, Refusal};
 
+/// What fills the output of Join before the call.
+pub const UNTOUCHED: u8 = b'.';
 /// The longest input that `rowlist` and `strike` read.
 pub const MOST_INPUT: usize = 16_384;
 
@@ -17,10 +21,11 @@ pub struct Answers {
     pub witnesses: Vec<u8>,
     pub struck: Vec<u8>,
     pub winners: Vec<u8>,
+    pub joins: Vec<u8>,
 }
 
-/// What `answers` prints of a text with this name and these probes.
-pub fn answers(name: &str, text: &[u8], probes: &[Probe]) -> Answers {
+/// What `answers` prints of a text with this name and these questions.
+pub fn answers(name: &str, text: &[u8], questions: &Questions) -> Answers {
     let reading = Reading::of(text);
     let rows = reading.check().map_or(0, |counts| counts[2]);
     Answers {
@@ -33,9 +38,15 @@ pub fn answers(name: &str, text: &[u8], probes: &[Probe]) -> Answers {
             .flat_map(|row| ended(witness(reading.witness(row))))
             .collect(),
         struck: reading.strike().unwrap_or_else(refused_line),
-        winners: probes
+        winners: questions
+            .probes
             .iter()
             .flat_map(|probe| ended(winner(reading.winner(probe))))
+            .collect(),
+        joins: questions
+            .couples
+            .iter()
+            .flat_map(|couple| ended(join(&reading, couple)))
             .collect(),
     }
 }
@@ -50,6 +61,7 @@ impl Answers {
             &self.witnesses,
             &self.struck,
             &self.winners,
+            &self.joins,
         ]
         .concat()
     }
@@ -99,6 +111,17 @@ fn winner(winner: Result<Option<usize>, Refusal>) -> Vec<u8> {
         Ok(None) => b"none".to_vec(),
         Err(refusal) => refused(refusal),
     }
+}
+
+/// The digits of the joined line's length or the refusal, and all of the output after the call.
+fn join(reading: &Reading, couple: &Couple) -> Vec<u8> {
+    let mut output = vec![UNTOUCHED; usize::from(couple.room)];
+    let line = reading.join(usize::from(couple.i), usize::from(couple.j));
+    let answer = line.and_then(|line| {
+        write(&line, &mut output)?;
+        Ok(digits(&[line.len() as u8]))
+    });
+    [&answer.unwrap_or_else(refused)[..], b" ", &output].concat()
 }
 
 /// `!` and two digits each of number and line.

@@ -58,12 +58,6 @@ pub fn packet_digits(packet: &Packet) -> Vec<u8> {
         .collect()
 }
 
-/// The lines of a file of probes.
-pub fn probe_lines(probes: &[Probe]) -> Vec<u8> {
-    let lines: Vec<Vec<u8>> = probes.iter().map(Probe::digits).collect();
-    crate::frames::text(&lines)
-}
-
 /// Probes at and near the ends and corners of the table's rows, some with numbers of no row or entity.
 pub fn probes(random: &mut Random, table: &Table) -> Vec<Probe> {
     (0..PROBES).map(|_| probe(random, table)).collect()

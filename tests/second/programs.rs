@@ -1,7 +1,6 @@
 //! Running the proved programs.
 
 use crate::cases::Case;
-use crate::probes::probe_lines;
 use std::fs;
 use std::io::{ErrorKind, Write};
 use std::path::{Path, PathBuf};
@@ -41,13 +40,13 @@ impl Programs {
         command.current_dir(&self.directory).stdin(Stdio::null());
         for (place, case) in cases.enumerate() {
             let name = name(place);
-            let probes = format!("{name}-probes");
+            let questions = format!("{name}-questions");
             write_files(
                 case,
                 &self.directory.join(&name),
-                &self.directory.join(&probes),
+                &self.directory.join(&questions),
             )?;
-            command.arg(name).arg(probes);
+            command.arg(name).arg(questions);
         }
         let output = command.output().map_err(message)?;
         if !output.status.success() {
@@ -69,10 +68,10 @@ pub fn name(place: usize) -> String {
     format!("text-{place}")
 }
 
-/// Writes a case's text and probes to two files.
-pub fn write_files(case: &Case, text_file: &Path, probes_file: &Path) -> Result<(), String> {
+/// Writes a case's text and questions to two files.
+pub fn write_files(case: &Case, text_file: &Path, questions_file: &Path) -> Result<(), String> {
     fs::write(text_file, &case.text).map_err(message)?;
-    fs::write(probes_file, probe_lines(&case.probes)).map_err(message)
+    fs::write(questions_file, case.questions.lines()).map_err(message)
 }
 
 /// What the program prints of an input that comes in these pieces, with a pause between them.

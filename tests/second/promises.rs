@@ -4,26 +4,27 @@
 
 use crate::printed::Answers;
 use crate::probes::Probe;
-use crate::table::{Packet, FIELDS, WIDTHS};
+use crate::table::{Coefficients, Packet, FIELDS, WIDTHS};
 
 /// How many packets the boxes of a tiny table span at most.
 const MOST_PACKETS: u64 = 1024;
 /// The kind of a dead row's entry.
 const DEAD: u8 = 20;
 
-/// A row's group (holder, technology and gateways), ends and box.
-struct Row {
-    group: Vec<u8>,
-    source: u8,
-    destination: u8,
-    low: Packet,
-    high: Packet,
+/// A row's group (holder, technology and gateways), ends, coefficients and box.
+pub struct Row {
+    pub group: Vec<u8>,
+    pub source: u8,
+    pub destination: u8,
+    pub coefficients: Coefficients,
+    pub low: Packet,
+    pub high: Packet,
 }
 
-/// What winners depend on.
-struct Policy {
-    parents: Vec<u8>,
-    rows: Vec<Row>,
+/// What winners and joined rows depend on.
+pub struct Policy {
+    pub parents: Vec<u8>,
+    pub rows: Vec<Row>,
 }
 
 /// Checks the promises on the answers to a text and to its struck text, or says what is broken.
@@ -147,7 +148,7 @@ fn check_winners(policy: &Policy, probes: &[Probe], winners: &[u8]) -> Result<()
 }
 
 /// Nothing if it holds, else what is broken.
-fn ensure(holds: bool, broken: impl FnOnce() -> String) -> Result<(), String> {
+pub fn ensure(holds: bool, broken: impl FnOnce() -> String) -> Result<(), String> {
     if holds {
         Ok(())
     } else {
@@ -159,14 +160,19 @@ fn ensure(holds: bool, broken: impl FnOnce() -> String) -> Result<(), String> {
 fn winner(policy: &Policy, group: &[u8], a: u8, b: u8, packet: &Packet) -> Option<usize> {
     policy.rows.iter().position(|row| {
         row.group == group
-            && (0..FIELDS).all(|f| row.low[f] <= packet[f] && packet[f] <= row.high[f])
+            && in_box(row, packet)
             && upward(policy, a, row.source)
             && upward(policy, b, row.destination)
     })
 }
 
+/// Whether the packet is in the row's box.
+pub fn in_box(row: &Row, packet: &Packet) -> bool {
+    (0..FIELDS).all(|f| row.low[f] <= packet[f] && packet[f] <= row.high[f])
+}
+
 /// Whether the way upward from the entity comes to the other.
-fn upward(policy: &Policy, from: u8, to: u8) -> bool {
+pub fn upward(policy: &Policy, from: u8, to: u8) -> bool {
     let mut at = from;
     while at != to && policy.parents[usize::from(at)] != 0xFF {
         at = policy.parents[usize::from(at)];
@@ -189,7 +195,7 @@ fn pairs(entities: usize) -> impl Iterator<Item = (u8, u8)> {
 }
 
 /// All packets from the least low to the greatest high of each field; no other packet is in a box.
-fn packets(policies: &[&Policy]) -> Result<Vec<Packet>, String> {
+pub fn packets(policies: &[&Policy]) -> Result<Vec<Packet>, String> {
     let rows = || policies.iter().flat_map(|policy| &policy.rows);
     let mut packets = vec![[0; FIELDS]];
     for field in 0..FIELDS {
@@ -213,7 +219,7 @@ fn packets(policies: &[&Policy]) -> Result<Vec<Packet>, String> {
 }
 
 /// The policy that an accepted text says.
-fn policy(text: &[u8]) -> Policy {
+pub fn policy(text: &[u8]) -> Policy {
     let frames: Vec<Vec<u8>> = text
         .split(|&c| c == b'\n')
         .filter(|line| !line.is_empty())
@@ -227,7 +233,7 @@ fn policy(text: &[u8]) -> Policy {
 }
 
 /// The row that a frame says.
-fn row(frame: &[u8]) -> Row {
+pub fn row(frame: &[u8]) -> Row {
     let mut lows = Vec::new();
     let mut highs = Vec::new();
     let mut at = 8;
@@ -240,6 +246,7 @@ fn row(frame: &[u8]) -> Row {
         group: [&[frame[1], frame[4]], &frame[at + 1..]].concat(),
         source: frame[2],
         destination: frame[3],
+        coefficients: [frame[5], frame[6], frame[7]],
         low: packet(&lows),
         high: packet(&highs),
     }
@@ -256,7 +263,7 @@ fn packet(bytes: &[u8]) -> Packet {
 }
 
 /// The bytes that pairs of digits say.
-fn bytes(digits: &[u8]) -> Vec<u8> {
+pub fn bytes(digits: &[u8]) -> Vec<u8> {
     let value = |digit: u8| char::from(digit).to_digit(16).unwrap_or(0) as u8;
     digits
         .chunks(2)
@@ -281,7 +288,7 @@ fn counts(check: &[u8]) -> Vec<u8> {
 }
 
 /// A line of what was printed, without line feed.
-fn nth_line(printed: &[u8], line: usize) -> &[u8] {
+pub fn nth_line(printed: &[u8], line: usize) -> &[u8] {
     printed.split(|&c| c == b'\n').nth(line).unwrap_or_default()
 }
 
@@ -289,6 +296,7 @@ fn nth_line(printed: &[u8], line: usize) -> &[u8] {
 mod tests {
     use super::*;
     use crate::printed::answers;
+    use crate::questions::Questions;
 
     /// Three rows of one group over destination ports 0 to 3, the third hidden by the other two together.
     const TEXT: &str = "01FF007E\n01000300\n01FF007E\n\
@@ -305,11 +313,14 @@ mod tests {
             b: 2,
             packet: [0, 0, 0, 3, 0],
         };
-        let probes = [probe];
-        let mut before = answers("text", TEXT.as_bytes(), &probes);
-        let mut after = answers("text", &before.struck, &[]);
+        let questions = Questions {
+            probes: vec![probe],
+            ..Questions::default()
+        };
+        let mut before = answers("text", TEXT.as_bytes(), &questions);
+        let mut after = answers("text", &before.struck, &Questions::default());
         alter(&mut before, &mut after);
-        check(TEXT.as_bytes(), &probes, &before, &after).is_ok()
+        check(TEXT.as_bytes(), &questions.probes, &before, &after).is_ok()
     }
 
     #[test]

@@ -38,7 +38,7 @@ impl Draft<'_> {
 
     /// Adds rows of one of the families.
     fn add_family(&mut self) {
-        match self.random.below(13) {
+        match self.random.below(17) {
             0 => self.add_plain(),
             1..=2 => self.add_crowd(),
             3..=4 => self.add_hidden(),
@@ -47,7 +47,9 @@ impl Draft<'_> {
             8 => self.add_rider(),
             9..=10 => self.add_variant(),
             11 => self.add_other_technology(),
-            _ => self.add_skewed(),
+            12 => self.add_skewed(),
+            13..=14 => self.add_unlike(),
+            _ => self.add_kin(),
         }
     }
 
@@ -211,6 +213,52 @@ impl Draft<'_> {
             row.selector = self.cut(&row.selector, 2)[0];
         }
         self.push(row);
+    }
+
+    /// Adds a copy of an earlier row, with other packets, that differs in one thing which keeps the two from being joined; or two
+    /// copies with two gateways in either order.
+    fn add_unlike(&mut self) {
+        let Some(mut row) = self.earlier() else {
+            return self.add_plain();
+        };
+        row.selector = self.selector();
+        match self.random.below(6) {
+            0 => row.holder = self.other_root(row.holder),
+            1 => row.technology = self.technology(),
+            2 => {
+                row.gateways = vec![row.holder, self.other_root(row.holder)];
+                self.push(row.clone());
+                row.gateways.reverse();
+            }
+            3 => row.gateways.truncate(1),
+            4 => row.source = self.other_root(row.source),
+            _ => row.destination = self.other_root(row.destination),
+        }
+        self.push(row);
+    }
+
+    /// Adds two rows of one group, of which the sources or the destinations are kin, or both.
+    fn add_kin(&mut self) {
+        let (Some((source, of_source)), Some((destination, of_destination))) =
+            (self.kin(), self.kin())
+        else {
+            return self.add_variant();
+        };
+        let mut first = self.row();
+        first.source = source;
+        first.destination = destination;
+        let mut second = first.clone();
+        let ends = self.random.below(3);
+        if ends != 0 {
+            second.source = of_source;
+        }
+        if ends != 1 {
+            second.destination = of_destination;
+        }
+        second.selector = self.selector();
+        second.coefficients = few(self.random);
+        self.push(first);
+        self.push(second);
     }
 
     /// Adds two rows, each with a gateway at an end of the other.

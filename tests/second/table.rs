@@ -62,7 +62,7 @@ pub struct Table {
     pub row_places: Vec<Place<usize>>,
 }
 
-/// Why a call gives no result: document 01's number, and the line or 0.
+/// Why a call gives no result: the documents' number, and the line or 0.
 #[derive(Clone, Copy, Debug, PartialEq, Eq)]
 pub struct Refusal {
     pub number: usize,

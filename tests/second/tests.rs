@@ -1,31 +1,40 @@
-//! Document 01's table T and its edges, the examples of the kinds, and demand 3 on seeded tables.
+//! Document 01's table T and its edges, the examples of the kinds, Join's edges, and demand 3 on seeded tables.
 
 use crate::calls::{self, Reading};
 use crate::cases::case;
+use crate::couples::Couple;
 use crate::frames::{lines, text};
 use crate::kinds::list;
 use crate::printed;
-use crate::probes::Probe;
+use crate::questions::Questions;
 use crate::random::Random;
 use crate::reader::{decode, read};
 use crate::relations::same_group;
 use crate::table::{Packet, Refusal, Table, FIELDS};
+use std::cmp::Ordering::{self, Equal, Greater, Less};
 use std::collections::BTreeSet;
 use std::path::Path;
 
 const ROW_START: &str = "050001030303030300000000FFFFFFFF00000000FFFFFFFF0000FFFF";
 
+/// The lines of a table with these entities and rows, the largest caps and the least floor.
+fn frames(entities: &[&str], rows: &[&str]) -> Vec<Vec<u8>> {
+    let caps: Vec<String> = (1..=6)
+        .map(|technology| format!("020{technology}FFFFFF"))
+        .collect();
+    let caps: Vec<&str> = caps.iter().map(String::as_str).collect();
+    let lines = [entities, &caps, &["03000000"], rows].concat();
+    lines.iter().map(|line| line.as_bytes().to_vec()).collect()
+}
+
 /// The lines of document 01's table T.
 fn table_t() -> Vec<Vec<u8>> {
-    let mut lines: Vec<String> = ["01FF007E", "01000300", "01FF007E", "01020300"]
-        .map(String::from)
-        .to_vec();
-    lines.extend((1..=6).map(|technology| format!("020{technology}FFFFFF")));
-    lines.push("03000000".into());
-    for end in ["00007FFF00FF00", "8000FFFF00FF00", "0000FFFF00FF00"] {
-        lines.push(format!("{ROW_START}{end}"));
-    }
-    lines.into_iter().map(String::into_bytes).collect()
+    let rows = ["00007FFF00FF00", "8000FFFF00FF00", "0000FFFF00FF00"]
+        .map(|end| format!("{ROW_START}{end}"));
+    frames(
+        &["01FF007E", "01000300", "01FF007E", "01020300"],
+        &rows.each_ref().map(String::as_str),
+    )
 }
 
 /// T's text with one line (from 1) in another wording.
@@ -65,14 +74,11 @@ fn list_of_t() {
 #[test]
 fn answers_on_t() {
     let whole = text(&table_t());
-    let probes = [
-        "02010300000000000000000000800000",
-        "00000300000000000000000000000000",
-        "03040300000000000000000000000000",
-        "00010400000000000000000000000000",
-    ]
-    .map(|digits| Probe::read(digits.as_bytes()).unwrap());
-    let answers = printed::answers("t", &whole, &probes);
+    let questions = Questions::read(
+        b"02010300000000000000000000800000\n00000300000000000000000000000000\n000148\n\
+        03040300000000000000000000000000\n00010400000000000000000000000000\n",
+    );
+    let answers = printed::answers("t", &whole, &questions.unwrap());
     assert_eq!(answers.check, b"t 040003\n");
     assert_eq!(answers.lines, [&text(&table_t()[11..])[..], b"\n"].concat());
     assert_eq!(
@@ -85,13 +91,20 @@ fn answers_on_t() {
     );
     assert_eq!(answers.struck, text(&table_t()[..13]));
     assert_eq!(answers.winners, b"01\nnone\n!0900\n!0A00\n");
+    assert_eq!(
+        answers.joins,
+        format!("46 {ROW_START}0000FFFF00FF00..\n").into_bytes()
+    );
 }
 
 #[test]
 fn answers_on_a_refused_text() {
-    let probe = Probe::read(b"FFFFFF00000000000000000000000000").unwrap();
-    let printed = printed::answers("empty", b"", &[probe]).all();
-    assert_eq!(printed, b"empty !0301\n\n!0301\n!0301\n!0301\n!0301\n");
+    let questions = Questions::read(b"FFFFFF00000000000000000000000000\nFFFF03\n000000\n");
+    let printed = printed::answers("empty", b"", &questions.unwrap()).all();
+    assert_eq!(
+        printed,
+        b"empty !0301\n\n!0301\n!0301\n!0301\n!0301\n!0301 ...\n!0301 \n"
+    );
 }
 
 #[test]
@@ -135,7 +148,7 @@ fn small_letters_are_read_as_capitals() {
     }
     let small = text(&table_t()).to_ascii_lowercase();
     let [of_small, of_capitals] =
-        [&small, &text(&table_t())].map(|text| printed::answers("t", text, &[]));
+        [&small, &text(&table_t())].map(|text| printed::answers("t", text, &Questions::default()));
     assert_eq!(of_small.list, of_capitals.list);
     assert_eq!(of_small.witnesses, of_capitals.witnesses);
     assert_eq!(of_small.struck, of_capitals.struck.to_ascii_lowercase());
@@ -195,6 +208,151 @@ fn refusals_of_content() {
     );
 }
 
+/// What `answers` prints of Join for rows 0 and 1 of a table with these rows and an output of the length. Its entities 01 and 04
+/// are under root 00, 02 and 03 under 01; 06 and 09 under root 05, 07 and 08 under 06; 0A is a root.
+fn join_of(rows: [&str; 2], room: u8) -> String {
+    let entities = [
+        "01FF007E", "01000200", "01010300", "01010500", "01000300", "01FF007E", "01050200",
+        "01060300", "01060500", "01050300", "01FF007E",
+    ];
+    join_in(&text(&frames(&entities, &rows)), 0, 1, room)
+}
+
+/// What `answers` prints of Join in the text.
+fn join_in(text: &[u8], i: u8, j: u8, room: u8) -> String {
+    let questions = Questions {
+        couples: vec![Couple { i, j, room }],
+        ..Questions::default()
+    };
+    let joins = printed::answers("text", text, &questions).joins;
+    String::from_utf8(joins.strip_suffix(b"\n").unwrap().to_vec()).unwrap()
+}
+
+/// Checks the joined line of the rows in both orders, and what each gives with itself.
+fn check_join(one: &str, other: &str, joined: &str) {
+    let length = one.len() as u8;
+    for (rows, joined) in [
+        ([one, other], joined),
+        ([other, one], joined),
+        ([one, one], one),
+        ([other, other], other),
+    ] {
+        let joined = joined.to_ascii_uppercase();
+        assert_eq!(join_of(rows, length), format!("{length:02X} {joined}"));
+    }
+}
+
+#[test]
+fn joined_ends() {
+    for (one, other, joined) in [
+        ("02", "02", "02"),
+        ("01", "02", "01"),
+        ("00", "03", "00"),
+        ("02", "03", "01"),
+        ("02", "04", "00"),
+        ("01", "04", "00"),
+    ] {
+        let selector = "0A0000000AFFFFFF0B0000000BFFFFFF0000FFFF01BB01BB060600";
+        let sources = [one, other, joined].map(|e| format!("0500{e}0703010203{selector}"));
+        check_join(&sources[0], &sources[1], &sources[2]);
+        let destinations = [one, other, joined].map(|e| format!("050507{e}03010203{selector}"));
+        check_join(&destinations[0], &destinations[1], &destinations[2]);
+    }
+    check_join(
+        "05000208030102030A0000000AFFFFFF0B0000000BFFFFFF0000FFFF01BB01BB060600",
+        "05000407030102030A0000000AFFFFFF0B0000000BFFFFFF0000FFFF01BB01BB060600",
+        "05000006030102030A0000000AFFFFFF0B0000000BFFFFFF0000FFFF01BB01BB060600",
+    );
+}
+
+#[test]
+fn joined_boxes_and_coefficients() {
+    for (one, other, joined) in [
+        ("00000008", "00090014", "00000014"),
+        ("00000008", "00080014", "00000014"),
+        ("00000001", "FFFEFFFF", "0000FFFF"),
+        ("00000014", "00080009", "00000014"),
+        ("00050014", "00000009", "00000014"),
+        ("01BB01BB", "01BB01BB", "01BB01BB"),
+        ("00FF00FF", "01000100", "00FF0100"),
+    ] {
+        let lines = [one, other, joined].map(|ports| {
+            format!("05000205030102030A0000000AFFFFFF0B0000000BFFFFFF0000FFFF{ports}060600")
+        });
+        check_join(&lines[0], &lines[1], &lines[2]);
+    }
+    check_join(
+        "0500020503FF0001000000FF000001000A0000050A0000050001000280008001061100",
+        "050002050301FE01000001000000010109FFFFFF0A000004000000017FFF7FFF070700",
+        "0500020503FFFE01000000FF0000010109FFFFFF0A000005000000027FFF8001061100",
+    );
+}
+
+#[test]
+fn joined_groups() {
+    let with = |middle: &str, end: &str| {
+        format!("050002050{middle}0A0000000AFFFFFF0B0000000BFFFFFF0000FFFF01BB01BB0606{end}")
+    };
+    for (middle, end) in [
+        ("0000000", "00"),
+        ("6FFFFFF", "010A"),
+        ("3010203", "0805000A0A0500000A"),
+    ] {
+        let line = with(middle, end);
+        check_join(&line, &line, &line);
+    }
+    let small = with("3010203", "020a0A").to_ascii_lowercase();
+    check_join(&small, &with("3010203", "020A0A"), &small);
+}
+
+#[test]
+fn refusals_of_join() {
+    let row = |holder: &str, ends: &str, technology: &str, gateways: &str| {
+        format!("05{holder}{ends}{technology}0000000A0000000AFFFFFF0B0000000BFFFFFF0000FFFF01BB01BB0606{gateways}")
+    };
+    let own = row("00", "0207", "03", "020A05");
+    for other in [
+        row("05", "0207", "03", "020A05"),
+        row("00", "0207", "04", "020A05"),
+        row("00", "0207", "00", "020A05"),
+        row("00", "0207", "03", "02050A"),
+        row("00", "0207", "03", "010A"),
+        row("00", "0207", "03", "030A050A"),
+        row("00", "0207", "03", "00"),
+        row("00", "0A07", "03", "020A05"),
+        row("00", "0202", "03", "020A05"),
+        row("00", "0702", "03", "020A05"),
+    ] {
+        for rows in [[&own[..], &other], [&other, &own]] {
+            assert_eq!(join_of(rows, 0), "!0B00 ");
+            assert_eq!(join_of(rows, 3), "!0B00 ...");
+            assert_eq!(join_of(rows, 74), format!("!0B00 {}", ".".repeat(74)));
+        }
+    }
+    assert_eq!(join_of([&own, &own], 0), "!0800 ");
+    let short = format!("!0800 {}", ".".repeat(73));
+    assert_eq!(join_of([&own, &own], 73), short);
+    assert_eq!(join_of([&own, &own], 74), format!("4A {own}"));
+    assert_eq!(join_of([&own, &own], 75), format!("4A {own}."));
+    let longest = format!("4A {own}{}", ".".repeat(181));
+    assert_eq!(join_of([&own, &own], 255), longest);
+}
+
+#[test]
+fn refusals_of_join_by_row_numbers() {
+    let whole = text(&table_t());
+    for (i, j) in [(0, 3), (3, 0), (3, 3), (64, 2), (0, 255), (255, 64)] {
+        assert_eq!(join_in(&whole, i, j, 2), "!0900 ..");
+        assert_eq!(join_in(&whole, i, j, 0), "!0900 ");
+    }
+    let mut rows = table_t();
+    rows.resize(11 + 64, rows[13].clone());
+    let last = format!("46 {ROW_START}0000FFFF00FF00");
+    assert_eq!(join_in(&text(&rows), 63, 0, 70), last);
+    assert_eq!(join_in(&text(&rows), 63, 64, 1), "!0900 .");
+    assert_eq!(join_in(&whole[1..], 3, 0, 1), "!0101 .");
+}
+
 #[test]
 fn executed_examples() {
     let directory = Path::new("crates/answers");
@@ -231,6 +389,31 @@ fn seeded_texts_have_every_kind_and_refusal() {
     assert!([16_383, 16_384, 16_385]
         .iter()
         .all(|length| lengths.contains(length)));
+}
+
+#[test]
+fn seeded_couples_have_every_length_and_refusal() {
+    let mut rooms = BTreeSet::new();
+    let mut refusals = BTreeSet::new();
+    for number in 0..1000 {
+        let case = case(1, number);
+        let reading = Reading::of(&case.text);
+        for couple in &case.questions.couples {
+            match reading.join(usize::from(couple.i), usize::from(couple.j)) {
+                Ok(line) => {
+                    rooms.insert((line.len(), usize::from(couple.room).cmp(&line.len())));
+                }
+                Err(refusal) => {
+                    refusals.insert(refusal.number);
+                }
+            }
+        }
+    }
+    let every: BTreeSet<(usize, Ordering)> = (35..=43)
+        .flat_map(|bytes| [Less, Equal, Greater].map(|room| (2 * bytes, room)))
+        .collect();
+    assert_eq!(rooms, every);
+    assert_eq!(refusals, (1..=7).chain([9, 11]).collect());
 }
 
 #[test]

@@ -2,7 +2,9 @@
 pub mod Texts
 pub mod Calls
 pub mod Outputs
+pub mod Joins
 pub mod Letters
 pub mod RelationPromises
 pub mod Promises
+pub mod JoinPromises
 pub mod Examples

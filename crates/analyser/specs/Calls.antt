@@ -1,18 +1,22 @@
--- Document 01, "The six calls": the answers of the calls, and their outputs, for every input. Each is a call on what reading the text gives: the
--- text's refusal, else that of the first condition that is broken, else a value. "The first faulty line counts ..; then 9, 10, 8."
+-- Document 01, "The six calls", and document 02, [2]: the answers of the calls, and their outputs, for every input. Each is a call on what reading the
+-- text gives: the text's refusal, else that of the first condition that is broken, else a value. "The first faulty line counts ..; then 9, 10, 8."
 -- Assumes nothing.
 use Prim.Native.Nat.{ℕ, _+_, _*_}
-use mathlib.Core.List.{List, [], _∷_}
+use mathlib.Core.List.{List, [], _∷_, _++_}
 use lib.Dec.{ltb}
 use lib.ListN.{length, getD}
 use Rattle.base.specs.Outputs.{fits}
 use Rattle.base.specs.Checks.{Check, or-else}
 use Rattle.base.specs.Answers.{Answer, returned, refusedBy, told, valueOr, wrote, callOn}
-use Rattle.policy.specs.Model.{Packet, Table, linesBefore}
+use Rattle.policy.specs.Model.{Packet, Row, Table, linesBefore, rowAt, parentOf}
+use Rattle.policy.specs.Wellformed.{widths}
 use Rattle.relations.specs.Groups.{winner}
 use Rattle.relations.specs.declared.group.Outcome.{Outcome}
 use Rattle.relations.specs.declared.group.Outcome.the-variants.{Won, Nobody}
-use Rattle.frames.specs.Refusals.{shortOutput, noSuchRow, noSuchEntity}
+use Rattle.joining.specs.Joining.{joinable, joined}
+use Rattle.frames.specs.Refusals.{shortOutput, noSuchRow, noSuchEntity, notJoinable}
+use Rattle.frames.specs.Kinds.{ofRow, describe}
+use Rattle.frames.specs.Rows.{lineOfRow}
 use Rattle.reader.specs.Lines.{linesOf}
 use Rattle.reader.specs.States.{parse}
 use Rattle.search.specs.Search.{SearchResult, found, none}
@@ -30,6 +34,10 @@ hasRow k t = or-else (ltb k (length (t .rows))) noSuchRow
 -- "a or b no entity"
 abbrev pub hasEntity : ℕ → Table → Check
 hasEntity e t = or-else (ltb e (length (t .entities))) noSuchEntity
+
+-- Document 02, [2]: "11 when holder, technology, G or either end's root differ"
+abbrev pub canJoin : ℕ → ℕ → Table → Check
+canJoin i j t = or-else (joinable (parentOf t) (rowAt t i) (rowAt t j)) notJoinable
 
 -- "output shorter than the result"
 abbrev pub hasRoom : List ℕ → List ℕ → Check
@@ -86,23 +94,48 @@ winnerOf text k a b p =
 
 -- ---- List and Strike
 
--- The answer of a call that writes its value, as the bytes `result` gives.
-abbrev pub writing : {A : Type 0} → (A → List ℕ) → (Table → A) → List ℕ → Answer Table → Answer A
-writing result value out x = callOn (λ t. hasRoom (result (value t)) out ∷ []) value x
+-- The answer of a call that writes its value, as the bytes `result` gives: these conditions first, and last that the output has room.
+abbrev pub writing : {A : Type 0} → (Table → List Check) → (A → List ℕ) → (Table → A) → List ℕ → Answer Table → Answer A
+writing conditions result value out x = callOn (λ t. conditions t ++ (hasRoom (result (value t)) out ∷ [])) value x
+
+-- No conditions.
+abbrev pub noConditions : Table → List Check
+noConditions t = []
 
 -- "List writes three bytes an entry (first row, kind, second number) in ascending order, .. and returns the count."
 unfoldable pub listOf : List ℕ → List ℕ → Answer ℕ
-listOf text out = told length (writing bytes entries out (parse text))
+listOf text out = told length (writing noConditions bytes entries out (parse text))
 
 unfoldable pub listWritten : List ℕ → List ℕ → List ℕ
-listWritten text out = wrote bytes (writing bytes entries out (parse text)) out
+listWritten text out = wrote bytes (writing noConditions bytes entries out (parse text)) out
 
 -- "Strike writes the text without its dead rows' lines and returns its length."
 unfoldable pub strikeOf : List ℕ → List ℕ → Answer ℕ
-strikeOf text out = told length (writing (λ l. l) (struckText text) out (parse text))
+strikeOf text out = told length (writing noConditions (λ l. l) (struckText text) out (parse text))
 
 unfoldable pub strikeWritten : List ℕ → List ℕ → List ℕ
-strikeWritten text out = wrote (λ l. l) (writing (λ l. l) (struckText text) out (parse text)) out
+strikeWritten text out = wrote (λ l. l) (writing noConditions (λ l. l) (struckText text) out (parse text)) out
+
+-- ---- Join
+
+-- The row that rows i and j are joined to.
+abbrev pub joinedRow : ℕ → ℕ → Table → Row
+joinedRow i j t = joined (parentOf t) (rowAt t i) (rowAt t j)
+
+-- "one row line without line feed .., in capitals", of "the common frame kind".
+abbrev pub joinedLine : ℕ → ℕ → Table → List ℕ
+joinedLine i j t = lineOfRow (describe ofRow .byte) widths (joinedRow i j t)
+
+-- "11 .., after 9 and before 8"
+abbrev pub joinConditions : ℕ → ℕ → Table → List Check
+joinConditions i j t = hasRow i t ∷ hasRow j t ∷ canJoin i j t ∷ []
+
+-- "Given two row numbers, the call writes one row line .. It returns the length, .. what lies past a result stays unchanged."
+unfoldable pub joinOf : List ℕ → ℕ → ℕ → List ℕ → Answer ℕ
+joinOf text i j out = told length (writing (joinConditions i j) (λ l. l) (joinedLine i j) out (parse text))
+
+unfoldable pub joinWritten : List ℕ → ℕ → ℕ → List ℕ → List ℕ
+joinWritten text i j out = wrote (λ l. l) (writing (joinConditions i j) (λ l. l) (joinedLine i j) out (parse text)) out
 
 -- ---- List for C
 

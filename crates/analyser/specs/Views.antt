@@ -2,7 +2,10 @@
 -- Assumes nothing.
 use Prim.Native.Nat.{ℕ}
 use Rattle.base.specs.Answers.{Answer, returned, refusedBy}
+use Rattle.base.specs.declared.Written.{Written}
+use Rattle.base.specs.declared.Written.the-variants.{Length, Short}
 use Rattle.policy.specs.Views.{packetOf}
+use Rattle.frames.specs.Refusals.{shortOutput}
 use Rattle.search.specs.Search.{SearchResult}
 use Rattle.analyser.specs.Calls.{TableCounts, saysDead, givesPacket, RowOrNobody, winningRow, nobodyWins}
 use Rattle.analyser.specs.declared.Checked.{Checked}
@@ -13,8 +16,8 @@ use Rattle.analyser.specs.declared.Winner.{Winner}
 use Rattle.analyser.specs.declared.Winner.the-variants.{Row, Nobody, Refused as WinnerRefused}
 use Rattle.analyser.specs.declared.Listed.{Listed}
 use Rattle.analyser.specs.declared.Listed.the-variants.{Count, Refused as ListRefused}
-use Rattle.analyser.specs.declared.Struck.{Struck}
-use Rattle.analyser.specs.declared.Struck.the-variants.{Length, Refused as StrikeRefused}
+use Rattle.analyser.specs.declared.LinesWritten.{LinesWritten}
+use Rattle.analyser.specs.declared.LinesWritten.the-variants.{Length as LinesLength, Refused as LinesRefused}
 
 abbrev pub checkAnswer : Checked → Answer TableCounts
 checkAnswer (Counts entities filters rows) = returned (record { entities = entities; filters = filters; rows = rows })
@@ -34,6 +37,11 @@ abbrev pub listAnswer : Listed → Answer ℕ
 listAnswer (Count n) = returned n
 listAnswer (ListRefused number line) = refusedBy number line
 
-abbrev pub strikeAnswer : Struck → Answer ℕ
-strikeAnswer (Length n) = returned n
-strikeAnswer (StrikeRefused number line) = refusedBy number line
+abbrev pub linesAnswer : LinesWritten → Answer ℕ
+linesAnswer (LinesLength n) = returned n
+linesAnswer (LinesRefused number line) = refusedBy number line
+
+-- What is answered of a result, once all other conditions are kept: the length, or that the output is shorter.
+abbrev pub roomAnswer : Written → Answer ℕ
+roomAnswer (Length n) = returned n
+roomAnswer Short = refusedBy shortOutput 0

@@ -1,12 +1,15 @@
 // The analyser's calls. Each takes the text of a table, and leaves it unchanged. A text that is refused gives its own refusal; else the
-// conditions that a call asks follow in document 01's order: 9, 10, 8.
+// conditions that a call asks follow in the documents' order: 9, 10, 11, 8.
 
 ghost use mathlib.Core.Path.{_≡_};
 ghost use Rattle.base.specs.Answers.{refusedBy};
 ghost use Rattle.policy.specs.Views.{packetOf};
-ghost use Rattle.analyser.specs.Calls.{checkOf, linePart, witnessOf, winnerOf, listOf, listWritten, packed, strikeOf, strikeWritten};
-ghost use Rattle.analyser.specs.Views.{checkAnswer, witnessAnswer, winnerAnswer, listAnswer, strikeAnswer};
+ghost use Rattle.analyser.specs.Calls.{checkOf, linePart, witnessOf, winnerOf, listOf, listWritten, packed, strikeOf, strikeWritten, joinOf, joinWritten};
+ghost use Rattle.analyser.specs.Views.{checkAnswer, witnessAnswer, winnerAnswer, listAnswer, linesAnswer, roomAnswer};
+use base::Written;
 use frames::refusals;
+use frames::row;
+use frames::widths::ADDRESS;
 use listing::Tally;
 use policy::selector::Packet;
 use policy::table;
@@ -14,7 +17,6 @@ use relations::group;
 use relations::group::Outcome;
 use relations::group::Probe;
 use search::Found;
-use striking::Written;
 
 // What Check answers: the counts of entities, filters and rows, or a refusal.
 pub enum Checked {
@@ -42,8 +44,8 @@ pub enum Listed {
     Refused { number: u8, line: u8 },
 }
 
-// What Strike answers: the length of the text that it writes, or a refusal.
-pub enum Struck {
+// What a call that writes lines answers, Strike or Join: the length of what it writes, or a refusal.
+pub enum LinesWritten {
     Length(usize),
     Refused { number: u8, line: u8 },
 }
@@ -155,26 +157,70 @@ pub extern "C" fn lainukesk_list(text: &[u8], out: &mut [u8]) -> u64
     }
 }
 
-// Strike: writes the text without its dead rows' lines into out from its start. Returns its length. The rest of out is unchanged, and all of
-// it where there is a refusal.
-pub fn strike(text: &[u8], out: &mut [u8]) -> Struck
-    ensures answers { λ r. ⌜ strikeAnswer r ≡ strikeOf (now (text .entry)) (now (out .entry)) ⌝ }
-    ensures writes { λ _. ⌜ now (out .exit) ≡ strikeWritten (now (text .entry)) (now (out .entry)) ⌝ }
+// What is answered of lines that were written where there is room: their length, or that the output is shorter.
+fn lines_written(w: Written) -> LinesWritten
+    ensures { λ r. ⌜ linesAnswer r ≡ roomAnswer w ⌝ }
 {
-    let r = reader::read(text);
-    if r.number != 0 {
-        return Struck::Refused {
-            number: r.number,
-            line: r.line,
-        };
-    }
-    match striking::strike(text, r.table, out) {
-        Written::Length(n) => Struck::Length(n),
-        Written::Short => Struck::Refused {
+    match w {
+        Written::Length(n) => LinesWritten::Length(n),
+        Written::Short => LinesWritten::Refused {
             number: refusals::SHORT_OUTPUT,
             line: 0,
         },
     }
+}
+
+// Strike: writes the text without its dead rows' lines into out from its start. Returns its length. The rest of out is unchanged, and all of
+// it where there is a refusal.
+pub fn strike(text: &[u8], out: &mut [u8]) -> LinesWritten
+    ensures answers { λ r. ⌜ linesAnswer r ≡ strikeOf (now (text .entry)) (now (out .entry)) ⌝ }
+    ensures writes { λ _. ⌜ now (out .exit) ≡ strikeWritten (now (text .entry)) (now (out .entry)) ⌝ }
+{
+    let r = reader::read(text);
+    if r.number != 0 {
+        return LinesWritten::Refused {
+            number: r.number,
+            line: r.line,
+        };
+    }
+    lines_written(striking::strike(text, r.table, out))
+}
+
+// Join: writes the line of the row that rows i and j are joined to into out from its start, in capitals and without line feed. Returns its length.
+// The rest of out is unchanged, and all of it where there is a refusal.
+pub fn join(text: &[u8], i: usize, j: usize, out: &mut [u8]) -> LinesWritten
+    ensures answers { λ r. ⌜ linesAnswer r ≡ joinOf (now (text .entry)) i j (now (out .entry)) ⌝ }
+    ensures writes { λ _. ⌜ now (out .exit) ≡ joinWritten (now (text .entry)) i j (now (out .entry)) ⌝ }
+{
+    let r = reader::read(text);
+    if r.number != 0 {
+        return LinesWritten::Refused {
+            number: r.number,
+            line: r.line,
+        };
+    }
+    if r.table.rows <= i {
+        return LinesWritten::Refused {
+            number: refusals::NO_SUCH_ROW,
+            line: 0,
+        };
+    }
+    if r.table.rows <= j {
+        return LinesWritten::Refused {
+            number: refusals::NO_SUCH_ROW,
+            line: 0,
+        };
+    }
+    let a = table::row_at(&r.table.heads, &r.table.bounds, i);
+    let b = table::row_at(&r.table.heads, &r.table.bounds, j);
+    if !joining::joinable(&r.table.parents, a, b) {
+        return LinesWritten::Refused {
+            number: refusals::NOT_JOINABLE,
+            line: 0,
+        };
+    }
+    let joined = joining::joined(&r.table.parents, a, b);
+    lines_written(row::put_line(joined, row::KIND, ADDRESS, out))
 }
 
 // Winner: the row that wins the probe in the group that row k names, or nobody.

@@ -1,14 +1,17 @@
-// Prints what every call answers. The arguments come in pairs: the name of a table's text, and that of a file of probes. A probe is a line of
-// 32 digits: the row that names the group, the two entities, and the packet (source and destination address, source and destination port,
-// protocol). A refusal is ! and two digits each of number and line. Of each pair are printed:
+// Prints what every call answers. The arguments come in pairs: the name of a table's text, and that of a file of questions, one a line. A question
+// of 32 digits is a probe: the row that names the group, the two entities, and the packet (source and destination address, source and destination
+// port, protocol). One of 6 digits is a couple: two rows, and the length of an output. A refusal is ! and two digits each of number and line. Of
+// each pair are printed:
 // - the text's name, and Check's answer: the counts of entities, filters and rows, two digits each
 // - Line's answer for each row, and for one number more
 // - List's entries, six digits each
 // - Witness's answer for each row, and for one number more: dead, or the packet's digits
 // - Strike's text
 // - Winner's answer for each probe: the row's two digits, or none
+// - Join's answer for each couple: the length's two digits, or the refusal; and all of the output, which had a . at each place before the call
 ghost use Rattle.io.specs.Counts.{Counts};
 use analyser::Checked;
+use analyser::LinesWritten;
 use analyser::Winner;
 use analyser::Witness;
 use libc::STDOUT_FILENO;
@@ -17,7 +20,7 @@ use policy::selector::Packet;
 use printing::limits::PRINTED;
 use relations::group::Probe;
 
-// How many bytes a field's number has, and a probe's line has digits.
+// How many bytes a field's number has, and a probe and a couple have digits.
 const ADDRESS: usize = 4;
 
 const PORT: usize = 2;
@@ -26,8 +29,13 @@ const PROTOCOL: usize = 1;
 
 const PROBE_DIGITS: usize = 32;
 
-// With its line feed.
-const PROBE_LINE: usize = PROBE_DIGITS + 1;
+const COUPLE_DIGITS: usize = 6;
+
+// The shortest question, with its line feed.
+const QUESTION: usize = COUPLE_DIGITS + 1;
+
+// The longest output that a couple can ask for.
+const OUTPUT: usize = 255;
 
 fn put_text(text: &[u8]) {
     io::write_all(STDOUT_FILENO, text);
@@ -35,7 +43,9 @@ fn put_text(text: &[u8]) {
 
 // A byte's two digits.
 fn put(b: u8) {
-    put_text(&[hex::high_digit(b), hex::low_digit(b)]);
+    let mut digits = [0u8; 2];
+    hex::put(&[b], &mut digits, 0);
+    put_text(&digits);
 }
 
 // A count or a row's number, at most 128.
@@ -52,10 +62,14 @@ fn put_number(n: Number, bytes: usize) {
     }
 }
 
-fn put_refusal(number: u8, line: u8) {
+fn put_number_and_line(number: u8, line: u8) {
     put_text(b"!");
     put(number);
     put(line);
+}
+
+fn put_refusal(number: u8, line: u8) {
+    put_number_and_line(number, line);
     put_text(b"\n");
 }
 
@@ -130,7 +144,7 @@ fn put_strike(text: &[u8]) {
     put_text(&out[..n]);
 }
 
-// The probe that the line says, and the row that names the group.
+// Winner's answer, if the line says a probe, and the row that names the group.
 fn put_winner(text: &[u8], line: &[u8]) {
     if line.len() != PROBE_DIGITS {
         return;
@@ -157,20 +171,56 @@ fn put_winner(text: &[u8], line: &[u8]) {
     }
 }
 
-// Each line says a probe.
-fn put_winners(text: &[u8], probes: &[u8]) {
-    for k in 0..probes.len() / PROBE_LINE {
-        put_winner(text, reader::nth_line(probes, k));
+// Join's answer for two rows, and the output.
+fn put_joined(text: &[u8], first: usize, second: usize, out: &mut [u8]) {
+    match analyser::join(text, first, second, out) {
+        LinesWritten::Length(n) => put_count(n),
+        LinesWritten::Refused { number, line } => put_number_and_line(number, line),
+    }
+    put_text(b" ");
+    put_text(out);
+    put_text(b"\n");
+}
+
+// The same, if the line says a couple.
+fn put_join(text: &[u8], line: &[u8]) {
+    if line.len() != COUPLE_DIGITS {
+        return;
+    }
+    let length = hex::u8_at(line, 2) as usize;
+    let mut out = [b'.'; OUTPUT];
+    put_joined(
+        text,
+        hex::u8_at(line, 0) as usize,
+        hex::u8_at(line, 1) as usize,
+        &mut out[..length],
+    );
+}
+
+// Join's answer to the question, or Winner's, if it is one for that call.
+fn put_question(text: &[u8], line: &[u8], join: bool) {
+    if join {
+        put_join(text, line);
+    } else {
+        put_winner(text, line);
     }
 }
 
-fn answer(text: &[u8], probes: &[u8]) {
+// The same for each line.
+fn put_questions(text: &[u8], questions: &[u8], join: bool) {
+    for k in 0..questions.len() / QUESTION {
+        put_question(text, reader::nth_line(questions, k), join);
+    }
+}
+
+fn answer(text: &[u8], questions: &[u8]) {
     let rows = put_check(text);
     put_rows(text, rows, false);
     put_list(text);
     put_rows(text, rows, true);
     put_strike(text);
-    put_winners(text, probes);
+    put_questions(text, questions, false);
+    put_questions(text, questions, true);
 }
 
 // The file's descriptor; below 0, with a message, if it cannot be opened.
@@ -191,31 +241,31 @@ fn read(fd: i32, buffer: &mut [u8]) -> usize
     n
 }
 
-fn answer_files(text_path: &[u8], probes_path: &[u8]) {
+fn answer_files(text_path: &[u8], questions_path: &[u8]) {
     let text_file = open(text_path);
     if text_file < 0 {
         return;
     }
-    let probes_file = open(probes_path);
-    if probes_file < 0 {
+    let questions_file = open(questions_path);
+    if questions_file < 0 {
         libc::close(text_file);
         return;
     }
     let mut text = io::large_buffer();
     let n = read(text_file, &mut text);
-    let mut probes = io::buffer();
-    let m = read(probes_file, &mut probes);
+    let mut questions = io::buffer();
+    let m = read(questions_file, &mut questions);
     put_text(text_path);
     put_text(b" ");
-    answer(&text[..n], &probes[..m]);
+    answer(&text[..n], &questions[..m]);
 }
 
 fn answer_arguments(i: usize, j: usize) {
     let mut text_path = io::buffer();
     let n = os::arg(i, &mut text_path);
-    let mut probes_path = io::buffer();
-    let m = os::arg(j, &mut probes_path);
-    answer_files(&text_path[..n], &probes_path[..m]);
+    let mut questions_path = io::buffer();
+    let m = os::arg(j, &mut questions_path);
+    answer_files(&text_path[..n], &questions_path[..m]);
 }
 
 fn main() {

@@ -9,6 +9,7 @@ pub mod Scans
 pub mod Passing
 pub mod Numbers
 pub mod Pairs
+pub mod Bounds
 pub mod Outputs
 pub mod Copying
 pub mod Checks

@@ -1,7 +1,8 @@
--- What is about no document: truths, lists of numbers, the caller's output, conditions that refuse, answers.
+-- What is about no document: truths, lists of numbers, the least of what is above two things, the caller's output, conditions that refuse, answers.
 pub mod Truths
 pub mod Lists
 pub mod Pairs
+pub mod Bounds
 pub mod Outputs
 pub mod Checks
 pub mod Answers

@@ -2,11 +2,14 @@
 -- output".
 -- Assumes nothing.
 use Prim.Native.Nat.{ℕ}
+use mathlib.Core.Path.{_≡_}
 use mathlib.Core.Bool.{Bool}
 use mathlib.Core.List.{List, _++_}
 use lib.Dec.{leb}
 use lib.ListN.{length, drop}
 use Rattle.base.specs.Truths.{pick}
+use Rattle.base.specs.declared.Written.{Written}
+use Rattle.base.specs.declared.Written.the-variants.{Length, Short}
 
 -- The output has room for the result.
 abbrev pub fits : List ℕ → List ℕ → Bool
@@ -15,3 +18,8 @@ fits result out = leb (length result) (length out)
 -- The output with the result at its start and the rest unchanged; as it was, if it is too short.
 abbrev pub written : List ℕ → List ℕ → List ℕ
 written result out = pick (fits result out) (result ++ drop (length result) out) out
+
+-- What becomes of the output, and what is answered: the length, or that the output is shorter than the result.
+pub record Writes (result before after : List ℕ) (r : Written) : Type 0 where
+  pub output : after ≡ written result before
+  pub answer : r ≡ pick (fits result before) (Length (length result)) Short

@@ -1,4 +1,4 @@
--- Two lists compared place by place, as many on both sides.
+-- Two lists compared place by place, as many on both sides; and combined.
 -- Assumes nothing.
 use mathlib.Core.Bool.{Bool, true, false, _&&_}
 use mathlib.Core.List.{List, [], _∷_}
@@ -17,3 +17,9 @@ module _ {A B : Type 0} where
   Pairwise P [] (y ∷ ys) = ⊥
   Pairwise P (x ∷ xs) [] = ⊥
   Pairwise P (x ∷ xs) (y ∷ ys) = P x y × Pairwise P xs ys
+
+-- What f makes of the two things at each place, as far as both lists go.
+abbrev pub combined : {A : Type 0} → (A → A → A) → List A → List A → List A
+combined f [] ys = []
+combined f (x ∷ xs) [] = []
+combined f (x ∷ xs) (y ∷ ys) = f x y ∷ combined f xs ys

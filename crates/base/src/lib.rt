@@ -2,6 +2,12 @@
 ghost use mathlib.Core.Path.{_≡_};
 ghost use Rattle.base.specs.Truths.{bit as bitOf};
 
+// What becomes of a result that is written to a caller's output: how many bytes were written, or that the output is shorter.
+pub enum Written {
+    Length(usize),
+    Short,
+}
+
 // 1 if b holds, else 0.
 pub fn bit(b: bool) -> usize
     ensures { λ r. ⌜ r ≡ bitOf b ⌝ }

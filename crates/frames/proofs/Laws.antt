@@ -8,3 +8,4 @@ pub mod Floors
 pub mod Filters
 pub mod Rows
 pub mod Kinds
+pub mod Writing

@@ -4,7 +4,7 @@ use Prim.Native.Nat.{ℕ, _+_, _*_}
 use mathlib.Core.Path.{_≡_}
 use mathlib.Core.List.{List, [], _∷_, _++_}
 use lib.ListN.{length, getD}
-use Rattle.hex.specs.Numbers.{numberOf, field}
+use Rattle.hex.specs.Numbers.{numberOf, field, numberBytes}
 use Rattle.policy.specs.Model.{Coefficients, Range, Selector}
 
 -- Three coefficients, a byte each, from place `at` on.
@@ -33,7 +33,17 @@ SaysBox (w ∷ ws) bs (r ∷ s) =
     (low : List ℕ) × (high : List ℕ) × (rest : List ℕ) × (bs ≡ low ++ (high ++ rest))
     × SaysNumber w low (r .low) × SaysNumber w high (r .high) × SaysBox ws rest s
 
--- The widest number that the code reads from a line, in bytes.
+-- The bytes of a range, of a field of this width: its low, then its high.
+abbrev pub bytesOfRange : ℕ → Range → List ℕ
+bytesOfRange width r = numberBytes width (r .low) ++ numberBytes width (r .high)
+
+-- The bytes of a box, of fields with these widths.
+abbrev pub bytesOfBox : List ℕ → Selector → List ℕ
+bytesOfBox [] s = []
+bytesOfBox (w ∷ ws) [] = []
+bytesOfBox (w ∷ ws) (r ∷ s) = bytesOfRange w r ++ bytesOfBox ws s
+
+-- The widest number that the code reads from a line or writes to one, in bytes.
 abbrev pub mostWidth : ℕ
 mostWidth = 8
 

@@ -1,4 +1,4 @@
--- Document 01's table of returns: the numbers of refusals, by name. The code's are in src/refusals.rt.
+-- Document 01's table of returns, and document 02's further numbers: the numbers of refusals, by name. The code's are in src/refusals.rt.
 -- Assumes nothing.
 use Prim.Native.Nat.{ℕ}
 
@@ -41,3 +41,7 @@ noSuchRow = 9
 -- "a or b no entity"
 abbrev pub noSuchEntity : ℕ
 noSuchEntity = 10
+
+-- Document 02, [2]: "when holder, technology, G or either end's root differ"
+abbrev pub notJoinable : ℕ
+notJoinable = 11

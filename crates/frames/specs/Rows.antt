@@ -7,13 +7,14 @@ use mathlib.Core.List.{List, [], _∷_, _++_}
 use lib.Dec.{eqb, leb, ltb}
 use lib.ListN.{length, getD, take, drop}
 use Rattle.base.specs.Checks.{Check, or-else}
+use Rattle.hex.specs.Lines.{lineOf}
 use Rattle.policy.specs.Limits.{technologies, mostRows, mostGateways, coefficientCount}
 use Rattle.policy.specs.Model.{Coefficients, Row, parentsOf}
 use Rattle.policy.specs.Views.{withRow}
 use Rattle.relations.specs.Selectors.{inhabited}
 use Rattle.frames.specs.Refusals.{badNumber, emptyRange, protectedNull}
 use Rattle.frames.specs.Progress.{FrameKind}
-use Rattle.frames.specs.Parts.{coefficientsFrom, selectorFrom, SaysBox, boxBytes}
+use Rattle.frames.specs.Parts.{coefficientsFrom, selectorFrom, SaysBox, bytesOfBox, mostWidth, boxBytes, boxOf}
 use Rattle.base.specs.Lists.{allPass}
 use Rattle.frames.specs.Numbers.{isEntity, isRoot, allRoots}
 
@@ -24,6 +25,10 @@ boxPlace = 4 + coefficientCount
 
 abbrev pub countPlace : List ℕ → ℕ
 countPlace ws = boxPlace + boxBytes ws
+
+-- The most bytes of a row, its kind byte among them: with the widest addresses, and all gateways.
+abbrev pub mostRowBytes : ℕ
+mostRowBytes = 1 + countPlace (boxOf mostWidth) + 1 + mostGateways
 
 abbrev pub rowLength : List ℕ → List ℕ → Bool
 rowLength ws bs =
@@ -50,6 +55,19 @@ pub record SaysRow (ws bs : List ℕ) (r : Row) : Type 0 where
   pub few : length (r .gateways) ≤ mostGateways
   pub bytes : bs
       ≡ r .holder ∷ r .source ∷ r .destination ∷ r .technology ∷ (r .coefficients ++ (box ++ (length (r .gateways) ∷ r .gateways)))
+
+-- The bytes of a row after its kind byte, with a box of these widths. That they say the row is a law.
+abbrev pub bytesOfRow : List ℕ → Row → List ℕ
+bytesOfRow ws r =
+    r .holder
+    ∷ r .source
+    ∷ r .destination
+    ∷ r .technology
+    ∷ (r .coefficients ++ (bytesOfBox ws (r .selector) ++ (length (r .gateways) ∷ r .gateways)))
+
+-- The line of a row, in capitals, with this kind byte.
+abbrev pub lineOfRow : ℕ → List ℕ → Row → List ℕ
+lineOfRow byte ws r = lineOf (byte ∷ bytesOfRow ws r)
 
 -- "0 to 64 rows", after the floor and the filters.
 abbrev pub rowPlace : (floored rows : ℕ) → Bool

@@ -3,9 +3,11 @@ ghost use mathlib.Core.Path.{_≡_};
 ghost use Prim.Native.Nat.{_+_, _*_, _<_, _≤_};
 ghost use lib.Dec.{eqb};
 ghost use lib.ListN.{length, getD};
+ghost use lib.Seq.{sets};
 ghost use Rattle.hex.specs.Lines.{bytesOf};
-ghost use Rattle.policy.specs.Views.{coefficientsOf, rangeOf, selectorOf};
-ghost use Rattle.frames.specs.Parts.{coefficientsFrom, rangeFrom, selectorFrom, mostWidth, boxBytes, boxOf};
+ghost use Rattle.hex.specs.Numbers.{numberBytes};
+ghost use Rattle.policy.specs.Views.{value, coefficientsOf, rangeOf, selectorOf};
+ghost use Rattle.frames.specs.Parts.{coefficientsFrom, rangeFrom, selectorFrom, bytesOfRange, bytesOfBox, mostWidth, boxBytes, boxOf};
 use crate::widths::PORT;
 use crate::widths::PROTOCOL;
 use policy::number::Number;
@@ -76,4 +78,51 @@ pub fn selector(part: &[u8], at: usize, address: usize) -> Selector
         destination_port: range(part, ports + 2 * PORT, PORT),
         protocol: range(part, ports + 4 * PORT, PROTOCOL),
     }
+}
+
+// Writes some bytes into others from place at on. The rest of those is unchanged.
+pub fn put_bytes(from: &[u8], bytes: &mut [u8], at: usize)
+    requires { ⌜ at + length (now from) ≤ length (now bytes) ⌝ }
+    ensures { λ _. ⌜ now (bytes .exit) ≡ sets (now (bytes .entry)) at (now (from .entry)) ⌝ }
+{
+    let mut k = 0;
+    while k < from.len() {
+        bytes[at + k] = from[k];
+        k += 1;
+    }
+}
+
+// Writes the number's bytes, so many, the most significant first, into bytes from place at on. The rest of bytes is unchanged.
+fn put_number(n: Number, width: usize, bytes: &mut [u8], at: usize)
+    requires { ⌜ at + width ≤ length (now bytes) ⌝ }
+    ensures { λ _. ⌜ now (bytes .exit) ≡ sets (now (bytes .entry)) at (numberBytes width (value n)) ⌝ }
+{
+    let mut k = 0;
+    while k < width {
+        bytes[at + k] = n.byte(width - 1 - k);
+        k += 1;
+    }
+}
+
+// Writes the low and the high of a field of so many bytes into bytes from place at on. The rest of bytes is unchanged.
+fn put_range(r: Range, width: usize, bytes: &mut [u8], at: usize)
+    requires { ⌜ (width ≤ mostWidth) × (at + 2 * width ≤ length (now bytes)) ⌝ }
+    ensures { λ _. ⌜ now (bytes .exit) ≡ sets (now (bytes .entry)) at (bytesOfRange width (rangeOf r)) ⌝ }
+{
+    put_number(r.low, width, bytes, at);
+    put_number(r.high, width, bytes, at + width);
+}
+
+// Writes the box, with addresses of so many bytes, into bytes from place at on. The rest of bytes is unchanged.
+pub fn put_selector(s: Selector, address: usize, bytes: &mut [u8], at: usize)
+    requires { ⌜ (address ≤ mostWidth) × (at + boxBytes (boxOf address) ≤ length (now bytes)) ⌝ }
+    ensures { λ _. ⌜ now (bytes .exit) ≡ sets (now (bytes .entry)) at (bytesOfBox (boxOf address) (selectorOf s)) ⌝ }
+{
+    let to = at + 2 * address;
+    let ports = to + 2 * address;
+    put_range(s.source_address, address, bytes, at);
+    put_range(s.destination_address, address, bytes, to);
+    put_range(s.source_port, PORT, bytes, ports);
+    put_range(s.destination_port, PORT, bytes, ports + 2 * PORT);
+    put_range(s.protocol, PROTOCOL, bytes, ports + 4 * PORT);
 }

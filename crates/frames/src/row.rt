@@ -2,18 +2,25 @@
 // addresses are of so many bytes as the caller says.
 ghost use mathlib.Core.Path.{_≡_};
 ghost use mathlib.Core.Bool.{true};
+ghost use mathlib.Core.List.{_∷_};
 ghost use Prim.Native.Nat.{_+_, _*_, _≤_};
 ghost use lib.ListN.{length, take, drop};
+ghost use lib.Seq.{sets};
 ghost use Rattle.base.specs.Checks.{refusal};
+ghost use Rattle.base.specs.Outputs.{Writes};
 ghost use Rattle.hex.specs.Lines.{bytesOf};
 ghost use Rattle.policy.specs.Limits.{mostGateways};
 ghost use Rattle.policy.specs.Views.{coefficientsOf, rowOf};
 ghost use Rattle.frames.specs.Parts.{mostWidth, boxOf};
 ghost use Rattle.frames.specs.Numbers.{Lent};
-ghost use Rattle.frames.specs.Rows.{countPlace, rowLength, rowFrame, rowPlace, rowNumbers, nullRule, rowContent};
+ghost use Rattle.frames.specs.Rows.{countPlace, rowLength, rowFrame, bytesOfRow, lineOfRow, rowPlace, rowNumbers, nullRule, rowContent};
 use crate::numbers;
 use crate::parts;
 use crate::refusals;
+use crate::widths::MOST_WIDTH;
+use crate::widths::PORT;
+use crate::widths::PROTOCOL;
+use base::Written;
 use policy::limits::GATEWAYS;
 use policy::limits::ROWS;
 use policy::limits::TECHNOLOGIES;
@@ -27,6 +34,12 @@ use relations::selector;
 const COEFFICIENTS: usize = 4;
 
 const BOX: usize = 7;
+
+// The kind byte of a row whose addresses are of four bytes.
+pub const KIND: u8 = 5;
+
+// The most bytes of a row: its kind byte, what stands before the box, the box, the number of gateways, the gateways.
+const ROW_BYTES: usize = 1 + BOX + 4 * MOST_WIDTH + 4 * PORT + 2 * PROTOCOL + 1 + GATEWAYS;
 
 // The place of the number of gateways.
 fn count_place(address: usize) -> usize
@@ -121,4 +134,47 @@ pub fn broken(parents: &PerEntity, count: usize, r: Row) -> u8
     );
     let empty = refusals::or_else(selector::inhabited(r.selector), refusals::EMPTY_RANGE, null);
     refusals::or_else(has_numbers(parents, count, r), refusals::BAD_NUMBER, empty)
+}
+
+// Writes the row's frame, the kind byte first, into bytes from its start. Returns how many bytes it has. The rest of bytes is unchanged.
+fn write(r: Row, kind: u8, address: usize, bytes: &mut [u8]) -> usize
+    requires { ⌜ (address ≤ mostWidth) × (countPlace (boxOf address) + 2 + mostGateways ≤ length (now bytes)) ⌝ }
+    ensures stores { λ _. ⌜ now (bytes .exit) ≡ sets (now (bytes .entry)) 0 (kind ∷ bytesOfRow (boxOf address) (rowOf r)) ⌝ }
+    ensures counts { λ n. ⌜ n ≡ length (kind ∷ bytesOfRow (boxOf address) (rowOf r)) ⌝ }
+{
+    let at = 1 + count_place(address);
+    let n = r.gateway_count();
+    let g = r.gateways;
+    parts::put_bytes(
+        &[
+            kind,
+            r.holder,
+            r.source,
+            r.destination,
+            r.technology,
+            r.coefficients.header,
+            r.coefficients.payload,
+            r.coefficients.confidentiality,
+        ],
+        bytes,
+        0,
+    );
+    parts::put_selector(r.selector, address, bytes, 1 + BOX);
+    parts::put_bytes(&[n as u8], bytes, at);
+    parts::put_bytes(&g[..n], bytes, at + 1);
+    at + 1 + n
+}
+
+// Writes the row's line, in capitals and without line feed, to the start of out, if there is room for it. The rest of out is unchanged.
+pub fn put_line(r: Row, kind: u8, address: usize, out: &mut [u8]) -> Written
+    requires { ⌜ address ≤ mostWidth ⌝ }
+    ensures { λ w. ⌜ Writes (lineOfRow kind (boxOf address) (rowOf r)) (now (out .entry)) (now (out .exit)) w ⌝ }
+{
+    let mut bytes = [0u8; ROW_BYTES];
+    let n = write(r, kind, address, &mut bytes);
+    if out.len() < 2 * n {
+        return Written::Short;
+    }
+    hex::put(&bytes[..n], out, 0);
+    Written::Length(2 * n)
 }

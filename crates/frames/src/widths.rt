@@ -4,3 +4,6 @@ pub const ADDRESS: usize = 4;
 pub const PORT: usize = 2;
 
 pub const PROTOCOL: usize = 1;
+
+// The widest number that is read from a line or written to one.
+pub const MOST_WIDTH: usize = 8;

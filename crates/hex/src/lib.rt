@@ -4,8 +4,9 @@ mod table;
 ghost use mathlib.Core.Path.{_≡_};
 ghost use Prim.Native.Nat.{_+_, _*_, _/_, _%_, _<_, _≤_};
 ghost use lib.ListN.{length, getD};
+ghost use lib.Seq.{sets};
 ghost use Rattle.hex.specs.Digits.{digitValue, byteOf, digitOf};
-ghost use Rattle.hex.specs.Lines.{isLine, bytesOf};
+ghost use Rattle.hex.specs.Lines.{isLine, bytesOf, lineOf};
 ghost use Rattle.hex.specs.Numbers.{numberOf, field};
 
 // A digit's value, or 16 for a byte that is no digit.
@@ -86,16 +87,31 @@ fn capital(v: u8) -> u8
     if v < 10 { v + 48 } else { v + 55 }
 }
 
-// The first of a byte's two digits, in capitals.
-pub fn high_digit(b: u8) -> u8
+// The first of a byte's two digits.
+fn high_digit(b: u8) -> u8
     ensures { λ r. ⌜ r ≡ digitOf (b / 16) ⌝ }
 {
     capital(b / 16)
 }
 
-// The second of a byte's two digits, in capitals.
-pub fn low_digit(b: u8) -> u8
+// The second of a byte's two digits.
+fn low_digit(b: u8) -> u8
     ensures { λ r. ⌜ r ≡ digitOf (b % 16) ⌝ }
 {
     capital(b % 16)
+}
+
+// Writes the digits of the bytes, two for each in capitals, into out from place at on, and leaves the rest of out unchanged.
+pub fn put(bytes: &[u8], out: &mut [u8], at: usize)
+    requires { ⌜ at + 2 * length (now bytes) ≤ length (now out) ⌝ }
+    ensures { λ _. ⌜ now (out .exit) ≡ sets (now (out .entry)) at (lineOf (now (bytes .entry))) ⌝ }
+{
+    let mut k = 0;
+    while k < bytes.len() {
+        let b = bytes[k];
+        let place = at + 2 * k;
+        out[place] = high_digit(b);
+        out[place + 1] = low_digit(b);
+        k += 1;
+    }
 }

@@ -7,7 +7,7 @@ use mathlib.Core.List.{List, [], _∷_, _++_}
 use lib.Dec.{leb}
 use lib.ListN.{length, take}
 use Rattle.base.specs.Truths.{pick}
-use Rattle.hex.specs.Digits.{digitsOf}
+use Rattle.hex.specs.Lines.{lineOf}
 use Rattle.base.specs.Outputs.{fits, written}
 use Rattle.policy.specs.Model.{Table}
 use Rattle.reader.specs.Lines.{lineFeed}
@@ -25,10 +25,10 @@ abbrev pub tooLong : List ℕ
 tooLong = mark ∷ 48 ∷ 48 ∷ lineFeed ∷ []
 
 abbrev pub refusalLine : ℕ → ℕ → List ℕ
-refusalLine number line = mark ∷ (digitsOf number ++ (digitsOf line ++ (lineFeed ∷ [])))
+refusalLine number line = mark ∷ (lineOf (number ∷ line ∷ []) ++ (lineFeed ∷ []))
 
 abbrev pub entryLine : ℕ → ℕ → ℕ → List ℕ
-entryLine row kind second = digitsOf row ++ (digitsOf kind ++ (digitsOf second ++ (lineFeed ∷ [])))
+entryLine row kind second = lineOf (row ∷ kind ∷ second ∷ []) ++ (lineFeed ∷ [])
 
 unfoldable pub entryLines : List Entry → List ℕ
 entryLines [] = []

@@ -2,15 +2,10 @@
 // for all that it has to write, and returns how many bytes; the rest of out is unchanged. If there is no room it writes nothing and returns 0.
 pub mod limits;
 
-ghost use mathlib.Core.Path.{_≡_};
-ghost use Prim.Native.Nat.{_+_, _≤_};
-ghost use lib.ListN.{length};
-ghost use lib.Seq.{sets};
 ghost use Rattle.reader.specs.States.{parse};
-ghost use Rattle.printing.specs.Limits.{lineBytes};
-ghost use Rattle.printing.specs.Printed.{refusalLine, entryLine, hexLines, listPrinted, struckPrinted, rowlistPrints, strikePrints, Prints};
+ghost use Rattle.printing.specs.Printed.{refusalLine, hexLines, listPrinted, struckPrinted, rowlistPrints, strikePrints, Prints};
+use analyser::LinesWritten;
 use analyser::Listed;
-use analyser::Struck;
 use frames::refusals;
 use limits::INPUT;
 use limits::LINE_BYTES;
@@ -31,36 +26,9 @@ fn put(text: &[u8], out: &mut [u8]) -> usize
 fn put_refusal(number: u8, line: u8, out: &mut [u8]) -> usize
     ensures { λ n. ⌜ Prints (refusalLine number line) (now (out .entry)) (now (out .exit)) n ⌝ }
 {
-    put(
-        &[
-            b'!',
-            hex::high_digit(number),
-            hex::low_digit(number),
-            hex::high_digit(line),
-            hex::low_digit(line),
-            b'\n',
-        ],
-        out,
-    )
-}
-
-// Writes an entry's line into out at place n, and leaves the rest of out unchanged.
-fn put_line(row: u8, kind: u8, second: u8, n: usize, out: &mut [u8])
-    requires { ⌜ n + lineBytes ≤ length (now out) ⌝ }
-    ensures { λ _. ⌜ now (out .exit) ≡ sets (now (out .entry)) n (entryLine row kind second) ⌝ }
-{
-    bytes::copy(
-        &[
-            hex::high_digit(row),
-            hex::low_digit(row),
-            hex::high_digit(kind),
-            hex::low_digit(kind),
-            hex::high_digit(second),
-            hex::low_digit(second),
-            b'\n',
-        ],
-        &mut out[n..],
-    );
+    let mut text = [b'!', 0, 0, 0, 0, b'\n'];
+    hex::put(&[number, line], &mut text, 1);
+    put(&text, out)
 }
 
 // Writes the lines of the entries whose bytes are given.
@@ -74,13 +42,9 @@ fn put_entries(entries: &[u8], out: &mut [u8]) -> usize
     let mut i = 0;
     while i < count {
         let at = ENTRY_BYTES * i;
-        put_line(
-            entries[at],
-            entries[at + 1],
-            entries[at + 2],
-            LINE_BYTES * i,
-            out,
-        );
+        let line = LINE_BYTES * i;
+        hex::put(&entries[at..at + ENTRY_BYTES], out, line);
+        out[line + 2 * ENTRY_BYTES] = b'\n';
         i += 1;
     }
     LINE_BYTES * count
@@ -112,8 +76,8 @@ pub fn put_struck(text: &[u8], out: &mut [u8]) -> usize
     ensures { λ n. ⌜ Prints (struckPrinted (now (text .entry)) (parse (now (text .entry)))) (now (out .entry)) (now (out .exit)) n ⌝ }
 {
     match analyser::strike(text, out) {
-        Struck::Length(n) => n,
-        Struck::Refused { number, line } => {
+        LinesWritten::Length(n) => n,
+        LinesWritten::Refused { number, line } => {
             if number == refusals::SHORT_OUTPUT {
                 return 0;
             }

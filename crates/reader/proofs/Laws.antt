@@ -15,3 +15,4 @@ pub mod Faults
 pub mod Refused
 pub mod Rows
 pub mod Texts
+pub mod Written

@@ -8,3 +8,4 @@ pub mod Selectors
 pub mod Groups
 pub mod Tables
 pub mod Examples
+pub mod Bounds

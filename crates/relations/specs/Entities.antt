@@ -1,4 +1,4 @@
--- Document 01, "Relations": entities. `up e` is e's parent, FF for a root.
+-- Document 01, "Relations": entities; document 02, [2]: "the lowest entity that is ⪰ both". `up e` is e's parent, FF for a root.
 -- Assumes nothing.
 use Prim.Native.Nat.{ℕ, zero, suc, _<_}
 use mathlib.Core.Path.{_≡_}
@@ -9,6 +9,7 @@ use lib.ListN.{length}
 use Rattle.policy.specs.Limits.{mostEntities}
 use Rattle.policy.specs.Model.{noParent}
 use Rattle.policy.specs.Views.{parentIn}
+use Rattle.base.specs.Truths.{pick}
 use Rattle.base.specs.Lists.{among}
 use Rattle.relations.specs.Relations.{relationBy}
 use Rattle.relations.specs.declared.relation.Relation.{Relation}
@@ -53,6 +54,15 @@ AtOrAbove up e f = List·Memᴰ e (ancestors up f)
 
 unfoldable pub atOrAbove : (ℕ → ℕ) → ℕ → ℕ → Bool
 atOrAbove up e f = among e (ancestors up f)
+
+-- The first of some entities that is ⪰ f; d where none is.
+unfoldable pub firstAbove : (ℕ → ℕ) → ℕ → ℕ → List ℕ → ℕ
+firstAbove up f d [] = d
+firstAbove up f d (x ∷ xs) = pick (atOrAbove up x f) x (firstAbove up f x xs)
+
+-- "the lowest entity that is ⪰ both": of e and its parents upward the first that is ⪰ f. (Of entities with different roots, e's root.)
+unfoldable pub lowestAbove : (ℕ → ℕ) → ℕ → ℕ → ℕ
+lowestAbove up e f = firstAbove up f e (ancestors up e)
 
 -- "Disjoint: different roots."
 abbrev pub DisjointEntities : (ℕ → ℕ) → ℕ → ℕ → Type 0

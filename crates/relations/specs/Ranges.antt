@@ -1,4 +1,4 @@
--- Document 01, "Relations": one field of a selector, a range of numbers of any width.
+-- Document 01, "Relations": one field of a selector, a range of numbers of any width; document 02, [2]: the smallest that holds two.
 -- Assumes nothing.
 use Prim.Native.Nat.{ℕ, _≤_, min, max}
 use mathlib.Core.Bool.{Bool, _&&_}
@@ -32,3 +32,7 @@ sameRange r q = eqb (r .low) (q .low) && eqb (r .high) (q .high)
 -- The range of the numbers that are in both.
 abbrev pub meetRange : Range → Range → Range
 meetRange r q = record { low = max (r .low) (q .low); high = min (r .high) (q .high) }
+
+-- The smallest range that holds both.
+abbrev pub hullRange : Range → Range → Range
+hullRange r q = record { low = min (r .low) (q .low); high = max (r .high) (q .high) }

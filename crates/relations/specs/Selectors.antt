@@ -1,11 +1,11 @@
--- Document 01, "Relations": selectors (boxes) and packets, for any number of fields.
+-- Document 01, "Relations": selectors (boxes) and packets, for any number of fields; document 02, [2]: "the smallest box holding both boxes".
 -- Assumes nothing.
 use mathlib.Core.Bool.{Bool, true, _&&_}
 use mathlib.Core.List.{List, [], _∷_, map, List·Memᴰ}
 use lib.Dec.{leb}
 use Rattle.policy.specs.Model.{Selector, Packet}
-use Rattle.base.specs.Pairs.{pairwise, Pairwise}
-use Rattle.relations.specs.Ranges.{Within, within, containsRange, overlapsRange, inhabitedRange, sameRange, meetRange}
+use Rattle.base.specs.Pairs.{pairwise, Pairwise, combined}
+use Rattle.relations.specs.Ranges.{Within, within, containsRange, overlapsRange, inhabitedRange, sameRange, meetRange, hullRange}
 
 -- The packet of the lows, and that of the highs.
 abbrev pub lows : Selector → Packet
@@ -53,9 +53,11 @@ inhabited (r ∷ s) = inhabitedRange r && inhabited s
 
 -- The selector of the packets that are in both, of selectors with as many fields.
 unfoldable pub meet : Selector → Selector → Selector
-meet [] s2 = []
-meet (r ∷ s1) [] = []
-meet (r ∷ s1) (q ∷ s2) = meetRange r q ∷ meet s1 s2
+meet s1 s2 = combined meetRange s1 s2
+
+-- "the smallest box holding both boxes", of selectors with as many fields.
+unfoldable pub hull : Selector → Selector → Selector
+hull s1 s2 = combined hullRange s1 s2
 
 -- The selector of the packets of s that are in all of ss.
 unfoldable pub meetAll : Selector → List Selector → Selector

@@ -3,7 +3,7 @@ ghost use mathlib.Core.Path.{_≡_};
 ghost use Prim.Native.Nat.{_<_};
 ghost use Rattle.policy.specs.Limits.{mostEntities};
 ghost use Rattle.policy.specs.Views.{parentIn};
-ghost use Rattle.relations.specs.Entities.{Parents, rootOf, atOrAbove, entityRelation};
+ghost use Rattle.relations.specs.Entities.{Parents, rootOf, atOrAbove, lowestAbove, entityRelation};
 use crate::relation;
 use crate::relation::Relation;
 use policy::limits::NO_PARENT;
@@ -39,6 +39,24 @@ pub fn at_or_above(parents: &PerEntity, e: u8, f: u8) -> bool
             return false;
         }
         at = parent;
+    }
+}
+
+// The lowest entity that is ⪰ both, of entities with one root: of e and its parents upward the first that is ⪰ f. Of others, e's root.
+pub fn lowest_above(parents: &PerEntity, e: u8, f: u8) -> u8
+    requires { ⌜ Parents (now parents) × (e < mostEntities) × (f < mostEntities) ⌝ }
+    ensures { λ r. ⌜ r ≡ lowestAbove (parentIn (now (parents .entry))) e f ⌝ }
+{
+    let mut lowest = e;
+    loop {
+        if at_or_above(parents, lowest, f) {
+            return lowest;
+        }
+        let up = parents[lowest as usize];
+        if up == NO_PARENT {
+            return lowest;
+        }
+        lowest = up;
     }
 }
 

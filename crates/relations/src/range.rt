@@ -1,7 +1,7 @@
 // Ranges of numbers: a field of a selector.
 ghost use mathlib.Core.Path.{_≡_};
 ghost use Rattle.policy.specs.Views.{value, rangeOf};
-ghost use Rattle.relations.specs.Ranges.{within, meetRange};
+ghost use Rattle.relations.specs.Ranges.{within, meetRange, hullRange};
 use policy::number::Number;
 use policy::selector::Range;
 
@@ -19,5 +19,15 @@ pub fn meet(r: Range, q: Range) -> Range
     Range {
         low: r.low.greater(q.low),
         high: r.high.lesser(q.high),
+    }
+}
+
+// The smallest range that holds both.
+pub fn hull(r: Range, q: Range) -> Range
+    ensures { λ b. ⌜ rangeOf b ≡ hullRange (rangeOf r) (rangeOf q) ⌝ }
+{
+    Range {
+        low: r.low.lesser(q.low),
+        high: r.high.greater(q.high),
     }
 }

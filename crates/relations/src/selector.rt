@@ -1,7 +1,7 @@
 // Selectors and packets. Every relation of selectors is one of their lowest and highest packets, field by field.
 ghost use mathlib.Core.Path.{_≡_};
 ghost use Rattle.policy.specs.Views.{selectorOf, packetOf};
-ghost use Rattle.relations.specs.Selectors.{lows, highs, noneAbove, holds as holdsTest, contains as containsTest, overlaps as overlapsTest, inhabited as inhabitedTest, meet as meetOf, exchange, sameSelector};
+ghost use Rattle.relations.specs.Selectors.{lows, highs, noneAbove, holds as holdsTest, contains as containsTest, overlaps as overlapsTest, inhabited as inhabitedTest, meet as meetOf, hull as hullOf, exchange, sameSelector};
 use crate::range;
 use policy::selector::Packet;
 use policy::selector::Selector;
@@ -98,6 +98,19 @@ pub fn meet(a: Selector, b: Selector) -> Selector
         source_port: range::meet(a.source_port, b.source_port),
         destination_port: range::meet(a.destination_port, b.destination_port),
         protocol: range::meet(a.protocol, b.protocol),
+    }
+}
+
+// The smallest selector that holds both.
+pub fn hull(a: Selector, b: Selector) -> Selector
+    ensures { λ r. ⌜ selectorOf r ≡ hullOf (selectorOf a) (selectorOf b) ⌝ }
+{
+    Selector {
+        source_address: range::hull(a.source_address, b.source_address),
+        destination_address: range::hull(a.destination_address, b.destination_address),
+        source_port: range::hull(a.source_port, b.source_port),
+        destination_port: range::hull(a.destination_port, b.destination_port),
+        protocol: range::hull(a.protocol, b.protocol),
     }
 }
 

@@ -1,4 +1,4 @@
--- The struck text byte by byte, and what becomes of the caller's output.
+-- The struck text byte by byte.
 -- Assumes nothing.
 use Prim.Native.Nat.{ℕ, suc, _-_, _≤_, _<_}
 use mathlib.Core.Path.{_≡_}
@@ -7,13 +7,10 @@ use mathlib.Core.List.{List, [], _∷_}
 use lib.Dec.{eqb, leb, ltb}
 use lib.ListN.{length, getD}
 use Rattle.base.specs.Truths.{pick}
-use Rattle.base.specs.Outputs.{fits, written}
 use Rattle.policy.specs.Limits.{mostRows}
 use Rattle.policy.specs.Model.{Table}
 use Rattle.reader.specs.Lines.{lineFeed}
 use Rattle.kinds.specs.Tests.{dead}
-use Rattle.striking.specs.declared.Written.{Written}
-use Rattle.striking.specs.declared.Written.the-variants.{Length, Short}
 
 -- At each row's place stands whether it is dead, and past the rows no flag is set.
 pub record DeadRows (t : Table) (flags : List Bool) : Type 0 where
@@ -33,8 +30,3 @@ unfoldable pub keptBytes : (ℕ → Bool) → ℕ → List ℕ → List ℕ
 keptBytes keep n [] = []
 keptBytes keep n (c ∷ text) =
     elim (keep n) [ true ↦ c ∷ keptBytes keep (nextPlace n c) text | false ↦ keptBytes keep (nextPlace n c) text ]
-
--- What becomes of the output, and what is answered: the length, or that the output is shorter than the result.
-pub record Strikes (result before after : List ℕ) (r : Written) : Type 0 where
-  pub output : after ≡ written result before
-  pub answer : r ≡ pick (fits result before) (Length (length result)) Short

@@ -6,9 +6,11 @@ ghost use lib.Seq.{sets};
 ghost use Rattle.policy.specs.Views.{tableOf, Held};
 ghost use Rattle.policy.specs.Wellformed.{Wellformed};
 ghost use Rattle.base.specs.Answers.{returned};
+ghost use Rattle.base.specs.Outputs.{Writes};
 ghost use Rattle.reader.specs.States.{parse};
 ghost use Rattle.striking.specs.Texts.{struckText};
-ghost use Rattle.striking.specs.Bytes.{DeadRows, keeps as keepsTest, nextPlace, keptBytes, Strikes};
+ghost use Rattle.striking.specs.Bytes.{DeadRows, keeps as keepsTest, nextPlace, keptBytes};
+use base::Written;
 use base::bit;
 use policy::limits::ROWS;
 use policy::table;
@@ -16,12 +18,6 @@ use policy::table::Table;
 
 // For each row, whether it is dead.
 pub type Flags = [bool; ROWS];
-
-// How many bytes were written, or that they need more room.
-pub enum Written {
-    Length(usize),
-    Short,
-}
 
 // The flags of the table's dead rows.
 fn dead_rows(t: Table) -> Flags
@@ -96,7 +92,7 @@ fn copy_kept(text: &[u8], dead: &Flags, others: usize, out: &mut [u8])
 // Writes the text, whose table is t, without its dead rows' lines to the start of out, if there is room for it. The rest of out is unchanged.
 pub fn strike(text: &[u8], t: Table, out: &mut [u8]) -> Written
     requires { ⌜ Held t × (parse (now text) ≡ returned (tableOf t)) ⌝ }
-    ensures { λ r. ⌜ Strikes (struckText (now (text .entry)) (tableOf t)) (now (out .entry)) (now (out .exit)) r ⌝ }
+    ensures { λ r. ⌜ Writes (struckText (now (text .entry)) (tableOf t)) (now (out .entry)) (now (out .exit)) r ⌝ }
 {
     let dead = dead_rows(t);
     let others = table::lines_before(t.entities, t.capped, 1, t.filters);

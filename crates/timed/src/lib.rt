@@ -1,9 +1,10 @@
-// What the benchmark calls: a text and a row's number in, a number out.
+// What the benchmark calls: a text and rows' numbers in, a number out.
 ghost use mathlib.Core.Path.{_≡_};
-ghost use Rattle.analyser.specs.Calls.{checkOf, witnessOf, packed, strikeOf, strikeWritten};
+ghost use Rattle.analyser.specs.Calls.{checkOf, witnessOf, packed, strikeOf, strikeWritten, joinOf, joinWritten};
+ghost use Rattle.analyser.specs.Views.{linesAnswer};
 ghost use Rattle.timed.specs.Codes.{checkCode, witnessCode};
 use analyser::Checked;
-use analyser::Struck;
+use analyser::LinesWritten;
 use analyser::Witness;
 
 // 0 if the text is accepted, else 1.
@@ -33,14 +34,30 @@ pub extern "C" fn timed_witness(text: &[u8], k: usize) -> u64
     }
 }
 
+// What a call that writes lines answers, as one number: the length, or the refusal.
+fn lines_number(answer: LinesWritten) -> u64
+    ensures { λ n. ⌜ n ≡ packed (linesAnswer answer) ⌝ }
+{
+    match answer {
+        LinesWritten::Length(n) => n as u64,
+        LinesWritten::Refused { number, line } => analyser::packed_refusal(number, line),
+    }
+}
+
 // The length of the struck text, or the refusal as one number. Writes what Strike writes.
 #[no_mangle]
 pub extern "C" fn timed_strike(text: &[u8], out: &mut [u8]) -> u64
     ensures answers { λ n. ⌜ n ≡ packed (strikeOf (now (text .entry)) (now (out .entry))) ⌝ }
     ensures writes { λ _. ⌜ now (out .exit) ≡ strikeWritten (now (text .entry)) (now (out .entry)) ⌝ }
 {
-    match analyser::strike(text, out) {
-        Struck::Length(n) => n as u64,
-        Struck::Refused { number, line } => analyser::packed_refusal(number, line),
-    }
+    lines_number(analyser::strike(text, out))
+}
+
+// The length of the line of rows i and j joined, or the refusal as one number. Writes what Join writes.
+#[no_mangle]
+pub extern "C" fn timed_join(text: &[u8], i: usize, j: usize, out: &mut [u8]) -> u64
+    ensures answers { λ n. ⌜ n ≡ packed (joinOf (now (text .entry)) i j (now (out .entry))) ⌝ }
+    ensures writes { λ _. ⌜ now (out .exit) ≡ joinWritten (now (text .entry)) i j (now (out .entry)) ⌝ }
+{
+    lines_number(analyser::join(text, i, j, out))
 }

@@ -28,7 +28,7 @@ use Rattle.kinds.specs.Entries.{entries}
 use Rattle.kinds.specs.Examples.{tableT}
 use Rattle.kinds.proofs.Laws.Examples.{printed}
 use Rattle.listing.specs.Bytes.{bytes}
-use Rattle.analyser.specs.Calls.{checkOf, witnessOf, listOf, listWritten}
+use Rattle.analyser.specs.Calls.{noConditions, checkOf, witnessOf, listOf, listWritten}
 use Rattle.analyser.specs.Examples.{T, listOfT, items}
 use Rattle.analyser.proofs.Laws.Outputs.{call-short, call-whole}
 
@@ -47,7 +47,7 @@ fits-18 : (out : List ℕ) → length out ≡ 18 → (listOf T out ≡ returned 
 unfolding listOf listWritten
 fits-18 out h =
     let e = ap length T-bytes in
-    let w = call-whole bytes length entries out (parse T) tableT T-parsed (omega arith) in (
+    let w = call-whole noConditions bytes length entries out (parse T) tableT T-parsed tt (omega arith) in (
       w .0 ∙ ap (λ es. returned (length es)) printed,
       w .1
           ∙ ap (λ (b : List ℕ). b ++ drop (length b) out) T-bytes
@@ -56,7 +56,7 @@ fits-18 out h =
 
 short-17 : (out : List ℕ) → length out ≡ 17 → (listOf T out ≡ refusedBy 8 0) × (listWritten T out ≡ out)
 unfolding listOf listWritten
-short-17 out h = let e = ap length T-bytes in call-short bytes length entries out (parse T) tableT T-parsed (omega arith)
+short-17 out h = let e = ap length T-bytes in call-short noConditions bytes length entries out (parse T) tableT T-parsed tt (omega arith)
 
 -- ---- all of them
 

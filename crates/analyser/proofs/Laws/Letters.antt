@@ -19,7 +19,7 @@ use Rattle.reader.specs.States.{parse}
 use Rattle.reader.proofs.Laws.Letters.{lines-case, parse-case}
 use Rattle.striking.specs.Texts.{struckText}
 use Rattle.striking.proofs.Laws.Letters.{struck-case}
-use Rattle.analyser.specs.Calls.{hasRow, lineIn, linePart, writing, strikeOf, strikeWritten}
+use Rattle.analyser.specs.Calls.{hasRow, lineIn, linePart, writing, noConditions, strikeOf, strikeWritten}
 
 -- ---- a call that writes one of two such results
 
@@ -61,6 +61,6 @@ module _ (a b : List ℕ) (h : SameButCase a b) where
   unfolding strikeOf strikeWritten
   strike-case out = rw (parse-case a b h) (go (parse b))
     where
-      go : (x : Answer Table) → WrittenAlike out (writing (λ l. l) (struckText a) out x) (writing (λ l. l) (struckText b) out x)
+      go : (x : Answer Table) → WrittenAlike out (writing noConditions (λ l. l) (struckText a) out x) (writing noConditions (λ l. l) (struckText b) out x)
       go (returned t) = written-case out (struckText a t) (struckText b t) (struck-case a b h t)
       go (refusedBy number line) = (refl, case-itself out)

@@ -1,6 +1,7 @@
 -- The calls that write a result:
 --   room, no-room: their condition, kept and broken
---   call-accepted: what such a call does, of a text that is accepted, where the result is written if it fits
+--   call-broken: what such a call does, of a text that is accepted, where another condition is broken
+--   call-asked, call-accepted, call-writes: where none is, and the result is written if it fits
 --   call-short, call-whole: its answer and output, for an output too short, and for one with room
 --   list-told, list-refused, strike-told, strike-refused: why List and Strike answer as they do
 --   list-wrote, strike-wrote, strike-left: what they leave in the output, where they tell a number, and where they refuse
@@ -8,18 +9,20 @@
 -- Assumes nothing.
 use Prim.Native.Nat.{ℕ, _*_, _≤_, _<_}
 use native.Mathlib.Omega.{arith}
-use mathlib.Core.Path.{_≡_, sym, ap, _∙_}
+use mathlib.Core.Path.{_≡_, refl, sym, ap, _∙_}
 use mathlib.Core.Bool.{Bool, true, false}
 use mathlib.Core.Logic.{inl, inr}
 use mathlib.Core.List.{List, [], _∷_, _++_}
 use lib.ListN.{length, drop}
 use borrow.Author.Tests.{leb-true, leb-false}
 use Rattle.base.specs.Truths.{pick}
-use Rattle.base.specs.Outputs.{fits, written}
+use Rattle.base.specs.Outputs.{fits, written, Writes}
+use Rattle.base.specs.declared.Written.{Written}
+use Rattle.base.specs.declared.Written.the-variants.{Length, Short}
 use Rattle.base.specs.Checks.{Check}
-use Rattle.base.specs.Answers.{Answer, returned, refusedBy, told, wrote}
+use Rattle.base.specs.Answers.{Answer, returned, refusedBy, told, wrote, given}
 use Rattle.base.proofs.Laws.Outputs.{fits-not, fits-all}
-use Rattle.base.proofs.Laws.Answers.{Kept, Broken, Told, told-why, Why, refused-why, told-room, wrote-room, wrote-refused}
+use Rattle.base.proofs.Laws.Answers.{Kept, Broken, given-broken, given-after, broken-first, Told, told-why, Why, refused-why, told-room, wrote-room, wrote-refused}
 use Rattle.policy.specs.Model.{Table}
 use Rattle.frames.specs.Refusals.{shortOutput}
 use Rattle.reader.specs.States.{parse}
@@ -27,8 +30,8 @@ use Rattle.kinds.specs.Entries.{entries}
 use Rattle.listing.specs.Bytes.{bytes, entryBytes}
 use Rattle.listing.proofs.Laws.Puts.{length-bytes}
 use Rattle.striking.specs.Texts.{struckText}
-use Rattle.analyser.specs.Calls.{hasRoom, writing, listOf, listWritten, strikeOf, strikeWritten}
-use Rattle.analyser.specs.Views.{listAnswer}
+use Rattle.analyser.specs.Calls.{hasRoom, writing, noConditions, listOf, listWritten, strikeOf, strikeWritten}
+use Rattle.analyser.specs.Views.{listAnswer, roomAnswer}
 use Rattle.analyser.specs.declared.Listed.{Listed}
 use Rattle.analyser.specs.declared.Listed.the-variants.{Count}
 
@@ -44,37 +47,56 @@ module _ (result out : List ℕ) where
 
 -- ---- a call
 
-module _ {A : Type 0} (result : A → List ℕ) (tell : A → ℕ) (value : Table → A) (out : List ℕ) where
+module _ {A : Type 0} (conditions : Table → List Check) (result : A → List ℕ) (tell : A → ℕ) (value : Table → A) (out : List ℕ) where
   abbrev pub answerTo : Answer Table → Answer ℕ
-  answerTo x = told tell (writing result value out x)
+  answerTo x = told tell (writing conditions result value out x)
 
   abbrev pub outputAfter : Answer Table → List ℕ
-  outputAfter x = wrote result (writing result value out x) out
+  outputAfter x = wrote result (writing conditions result value out x) out
 
   module _ (x : Answer Table) (t : Table) (e : x ≡ returned t) where
-    answer-accepted : answerTo x ≡ pick (fits (result (value t)) out) (returned (tell (value t))) (refusedBy shortOutput 0)
-    answer-accepted = ap answerTo e ∙ told-room (value t) shortOutput tell (fits (result (value t)) out)
+    -- A condition that is broken.
+    pub call-broken : (n : ℕ) → Broken (conditions t) n → (answerTo x ≡ refusedBy n 0) × (outputAfter x ≡ out)
+    call-broken n h =
+        let b = given-broken (value t) (conditions t ++ (hasRoom (result (value t)) out ∷ [])) n (broken-first (conditions t) _ n h) in
+        (ap answerTo e ∙ ap (told tell) b, ap outputAfter e ∙ ap (λ y. wrote result y out) b)
 
-    output-accepted : outputAfter x ≡ written (result (value t)) out
-    output-accepted = ap outputAfter e ∙ wrote-room (value t) shortOutput result out
+    -- All of them are kept.
+    module _ (kept : Kept (conditions t)) where
+      pub call-asked : writing conditions result value out x ≡ given (hasRoom (result (value t)) out ∷ []) (value t)
+      call-asked = ap (writing conditions result value out) e ∙ given-after (value t) (conditions t) (hasRoom (result (value t)) out ∷ []) kept
 
-    -- Where the result is written if it fits, and one of two answers says which.
-    pub call-accepted : (after : List ℕ) {E : Type 0} (f : E → Answer ℕ) (whole short r : E)
-        → f whole ≡ returned (tell (value t)) → f short ≡ refusedBy shortOutput 0 → r ≡ pick (fits (result (value t)) out) whole short
-        → after ≡ written (result (value t)) out → (f r ≡ answerTo x) × (after ≡ outputAfter x)
-    call-accepted after f whole short r w s a o =
-        (ap f a ∙ picked (fits (result (value t)) out) ∙ sym answer-accepted, o ∙ sym output-accepted)
-      where
-        picked : (b : Bool) → f (pick b whole short) ≡ pick b (returned (tell (value t))) (refusedBy shortOutput 0)
-        picked true = w
-        picked false = s
+      answer-accepted : answerTo x ≡ pick (fits (result (value t)) out) (returned (tell (value t))) (refusedBy shortOutput 0)
+      answer-accepted = ap (told tell) call-asked ∙ told-room (value t) shortOutput tell (fits (result (value t)) out)
 
-    pub call-short : length out < length (result (value t)) → (answerTo x ≡ refusedBy shortOutput 0) × (outputAfter x ≡ out)
-    call-short h = let n = fits-not (result (value t)) out h in (answer-accepted ∙ rw n, output-accepted ∙ rw n)
+      output-accepted : outputAfter x ≡ written (result (value t)) out
+      output-accepted = ap (λ y. wrote result y out) call-asked ∙ wrote-room (value t) shortOutput result out
 
-    pub call-whole : length (result (value t)) ≤ length out
-        → (answerTo x ≡ returned (tell (value t))) × (outputAfter x ≡ result (value t) ++ drop (length (result (value t))) out)
-    call-whole h = let n = fits-all (result (value t)) out h in (answer-accepted ∙ rw n, output-accepted ∙ rw n)
+      -- Where the result is written if it fits, and one of two answers says which.
+      pub call-accepted : (after : List ℕ) {E : Type 0} (f : E → Answer ℕ) (whole short r : E)
+          → f whole ≡ returned (tell (value t)) → f short ≡ refusedBy shortOutput 0 → r ≡ pick (fits (result (value t)) out) whole short
+          → after ≡ written (result (value t)) out → (f r ≡ answerTo x) × (after ≡ outputAfter x)
+      call-accepted after f whole short r w s a o =
+          (ap f a ∙ picked (fits (result (value t)) out) ∙ sym answer-accepted, o ∙ sym output-accepted)
+        where
+          picked : (b : Bool) → f (pick b whole short) ≡ pick b (returned (tell (value t))) (refusedBy shortOutput 0)
+          picked true = w
+          picked false = s
+
+      pub call-short : length out < length (result (value t)) → (answerTo x ≡ refusedBy shortOutput 0) × (outputAfter x ≡ out)
+      call-short h = let n = fits-not (result (value t)) out h in (answer-accepted ∙ rw n, output-accepted ∙ rw n)
+
+      pub call-whole : length (result (value t)) ≤ length out
+          → (answerTo x ≡ returned (tell (value t))) × (outputAfter x ≡ result (value t) ++ drop (length (result (value t))) out)
+      call-whole h = let n = fits-all (result (value t)) out h in (answer-accepted ∙ rw n, output-accepted ∙ rw n)
+
+-- A call that writes a text or a line, and does so where there is room.
+module _ (conditions : Table → List Check) (value : Table → List ℕ) (out : List ℕ) (x : Answer Table) (t : Table) (e : x ≡ returned t)
+    (kept : Kept (conditions t)) where
+  pub call-writes : (after : List ℕ) (r : Written) → Writes (value t) out after r
+      → (roomAnswer r ≡ answerTo conditions (λ l. l) length value out x) × (after ≡ outputAfter conditions (λ l. l) length value out x)
+  call-writes after r w =
+      call-accepted conditions (λ l. l) length value out x t e kept after roomAnswer (Length (length (value t))) Short r refl refl (w .answer) (w .output)
 
 -- ---- List and Strike
 
@@ -104,16 +126,16 @@ module _ (text out : List ℕ) where
   pub list-wrote : {n : ℕ} (w : Told listConditions entries length (parse text) n)
       → listWritten text out ≡ bytes (entries (w .of)) ++ drop (length (bytes (entries (w .of)))) out
   unfolding listWritten
-  list-wrote w = call-whole bytes length entries out (parse text) (w .of) (w .read) (room (bytes (entries (w .of))) out (w .keeps)) .1
+  list-wrote w = call-whole noConditions bytes length entries out (parse text) (w .of) (w .read) tt (room (bytes (entries (w .of))) out (w .keeps)) .1
 
   pub strike-wrote : {n : ℕ} (w : Told strikeConditions (struckText text) length (parse text) n)
       → strikeWritten text out ≡ struckText text (w .of) ++ drop (length (struckText text (w .of))) out
   unfolding strikeWritten
-  strike-wrote w = call-whole (λ l. l) length (struckText text) out (parse text) (w .of) (w .read) (room (struckText text (w .of)) out (w .keeps)) .1
+  strike-wrote w = call-whole noConditions (λ l. l) length (struckText text) out (parse text) (w .of) (w .read) tt (room (struckText text (w .of)) out (w .keeps)) .1
 
   pub strike-left : (number line : ℕ) → strikeOf text out ≡ refusedBy number line → strikeWritten text out ≡ out
   unfolding strikeOf strikeWritten
-  strike-left number line e = wrote-refused length (λ l. l) out (writing (λ l. l) (struckText text) out (parse text)) number line e
+  strike-left number line e = wrote-refused length (λ l. l) out (writing noConditions (λ l. l) (struckText text) out (parse text)) number line e
 
   -- As many entries as are counted have room.
   pub count-fits : (r : Listed) (n : ℕ) → listAnswer r ≡ listOf text out → r ≡ Count n → entryBytes * n ≤ length out

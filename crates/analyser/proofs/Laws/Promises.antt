@@ -41,7 +41,7 @@ use Rattle.striking.proofs.Laws.Struck.{struck-keeps}
 use Rattle.striking.proofs.Laws.Texts.{struck-written, struck-parses}
 use Rattle.striking.proofs.Laws.Bytes.{struck-shorter}
 use Rattle.striking.proofs.Laws.Letters.{struck-case}
-use Rattle.analyser.specs.Calls.{checkOf, linePart, givesPacket, witnessOf, outcomeOf, winnerOf, listOf, listWritten, strikeOf, strikeWritten, packed}
+use Rattle.analyser.specs.Calls.{noConditions, checkOf, linePart, givesPacket, witnessOf, outcomeOf, winnerOf, listOf, listWritten, strikeOf, strikeWritten, packed}
 use Rattle.analyser.specs.Promises.{DigitValues, Reading, RefusedText, AcceptedText, KindNumbers, ListPromise, WitnessPromise, StrikePromise, WinnerPromise, AsWritten, CasePromise, PackedPromise}
 use Rattle.analyser.proofs.Laws.Calls.{line-written, line-row, witness-verdict, winner-no-row, winner-no-entity, winner-found, winner-row, winner-none}
 use Rattle.analyser.proofs.Laws.Letters.{line-case, strike-case}
@@ -100,8 +100,8 @@ accepted-text text t e = record {
   line = λ k h. line-row text t e k h .frame;
   no-row = λ k h. (rw e (rw (le-ltb _ _ h)), rw e (rw (le-ltb _ _ h)), λ a b p. winner-no-row text t e k a b p h);
   no-entity = λ k a b p h n. winner-no-entity text t e k a b p h n;
-  short-list = λ out h. call-short bytes length entries out (parse text) t e (omega (arith, length-bytes (entries t)));
-  short-strike = λ out h. call-short (λ l. l) length (struckText text) out (parse text) t e h;
+  short-list = λ out h. call-short noConditions bytes length entries out (parse text) t e tt (omega (arith, length-bytes (entries t)));
+  short-strike = λ out h. call-short noConditions (λ l. l) length (struckText text) out (parse text) t e tt h;
 }
 
 -- ---- demand 2
@@ -149,7 +149,7 @@ list-promise text t e =
     let long = length-bytes (entries t) in
     record {
       written = λ out h.
-          let w = call-whole bytes length entries out (parse text) t e (omega arith) in
+          let w = call-whole noConditions bytes length entries out (parse text) t e tt (omega arith) in
           (w .0, w .1 ∙ ap (λ (n : ℕ). bytes (entries t) ++ drop n out) long);
       three = (bytes-none, λ i kind j l. bytes-more (entry i kind j) l);
       exact = entries-exact t well;
@@ -189,7 +189,7 @@ strike-promise text t e =
     let well = accepted-wellformed text t e in
     let keeps = struck-keeps t well in
     record {
-      written = λ out h. call-whole (λ l. l) length (struckText text) out (parse text) t e h;
+      written = λ out h. call-whole noConditions (λ l. l) length (struckText text) out (parse text) t e tt h;
       shorter = struck-shorter text t e;
       taken = struck-parses text t e;
       alive = keeps .alive;

@@ -11,7 +11,7 @@ use Rattle.kinds.specs.Entries.{entries}
 use Rattle.listing.specs.Bytes.{bytes}
 use Rattle.listing.specs.declared.Tally.{Tally}
 use Rattle.listing.specs.declared.Tally.the-variants.{Count, Short}
-use Rattle.analyser.specs.Calls.{listOf, listWritten}
+use Rattle.analyser.specs.Calls.{noConditions, listOf, listWritten}
 use Rattle.analyser.proofs.Laws.Outputs.{call-accepted}
 use Rattle.analyser.proofs.Laws.Texts.{Accepted, text-refused, accepted}
 use Rattle.analyser.proofs.list.Statement.{statement}
@@ -34,7 +34,7 @@ done : (c : tie.After-list) → let s = c .before .before .before .before .befor
     (answered (c .list .result) ≡ listOf (now (s .text)) (now (s .out))) × (c .list .last .1 .0 ≡ listWritten (now (s .text)) (now (s .out)))
 unfolding listOf listWritten
 done c =
-    call-accepted bytes length entries (now (c .before .before .before .before .before .before .before .args .out)) _ _ (taken (c .before .before) .read) _ answered (Count _) Short _ refl refl (c .list .ensures .result) (c .list .ensures .buffer)
+    call-accepted noConditions bytes length entries (now (c .before .before .before .before .before .before .before .args .out)) _ _ (taken (c .before .before) .read) tt _ answered (Count _) Short _ refl refl (c .list .ensures .result) (c .list .ensures .buffer)
 
 pub list-spec : {M : Type 1} → statement M
 list-spec =

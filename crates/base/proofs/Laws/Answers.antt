@@ -2,6 +2,7 @@
 --   Kept, given-kept: all conditions hold, and the value is returned
 --   Broken, given-broken: one is broken, those before it hold, and its number is the refusal's
 --   Told, told-why, refused-why: why a call returns, and why it refuses
+--   given-after, broken-first: further conditions, after some that all hold, and after some of which one is broken
 --   told-room, wrote-room: a call whose one condition is that its result has room in the output
 --   wrote-refused: a refusal writes nothing
 --   case-of: an enum that stands for an answer
@@ -10,7 +11,7 @@ use Prim.Native.Nat.{ℕ}
 use mathlib.Core.Path.{_≡_, refl, sym, ap, _∙_}
 use mathlib.Core.Bool.{Bool, true, false}
 use mathlib.Core.Logic.{_⊎_, inl, inr}
-use mathlib.Core.List.{List, [], _∷_}
+use mathlib.Core.List.{List, [], _∷_, _++_}
 use native.Mathlib.Omega.{arith}
 use Rattle.base.specs.Truths.{pick}
 use Rattle.base.specs.Outputs.{fits, written}
@@ -36,6 +37,17 @@ module _ {A : Type 0} (a : A) where
   given-broken [] n h = absurd h
   given-broken (c ∷ cs) n (inl h) = rw (h .0) (ap (λ k. refusedBy k 0) (sym (h .1)))
   given-broken (c ∷ cs) n (inr h) = rw (h .0) (given-broken cs n (h .1))
+
+  -- Conditions that hold leave it to those after them.
+  pub given-after : (cs ds : List Check) → Kept cs → given (cs ++ ds) a ≡ given ds a
+  given-after [] ds h = refl
+  given-after (c ∷ cs) ds h = rw (h .0) (given-after cs ds (h .1))
+
+-- The first that is broken is so with others after it.
+pub broken-first : (cs ds : List Check) (n : ℕ) → Broken cs n → Broken (cs ++ ds) n
+broken-first [] ds n h = absurd h
+broken-first (c ∷ cs) ds n (inl h) = inl h
+broken-first (c ∷ cs) ds n (inr h) = inr (h .0, broken-first cs ds n (h .1))
 
 -- One or the other it is.
 pub kept-or-broken : (cs : List Check) → Kept cs ⊎ ((n : ℕ) × Broken cs n)

@@ -1,8 +1,8 @@
 -- Laws of a list that is given by what stands at each place: its length, what stands at a place, that it goes by its places
 -- alone, one place more, and that a list is such a list of its own elements. Laws of what stands at a place: that below the
 -- length it does not go by the default, of a thing that is repeated, after a store at the place that follows those filled, and after a run
--- of stores, outside the run and in it. Two runs of stores, one after the other. A map, and the first of a list, place by place. A list of no
--- length.
+-- of stores, outside the run and in it. Two runs of stores, one after the other, and the length of what they are made to. A map, and the first of a
+-- list, place by place. A list of no length.
 -- Assumes nothing.
 use mathlib.Core.Path.{_≡_, refl, sym, ap, subst, _∙_}
 use mathlib.Core.List.{List, [], _∷_, _++_, map}
@@ -12,7 +12,7 @@ use native.Mathlib.Numerals.{add-one}
 use native.Mathlib.Decide.{decLt}
 use native.Mathlib.Omega.{arith}
 use lib.ListN.{length, getD, take, set, replicate, length-set}
-use lib.Seq.{sets, length-take-le, getD-take, getD-set-same, getD-set-other}
+use lib.Seq.{sets, length-sets, length-take-le, getD-take, getD-set-same, getD-set-other}
 use Rattle.base.specs.Lists.{tabulateFrom, tabulate}
 
 module _ {A : Type 0} where
@@ -100,6 +100,16 @@ module _ {A : Type 0} where
   sets-append l i (v ∷ vs) ws =
       let e : suc i + length vs ≡ i + suc (length vs) = omega arith in
       sets-append (set l i v) (suc i) vs ws ∙ ap (λ (k : ℕ). sets (sets (set l i v) (suc i) vs) k ws) e
+
+  -- What is stored after something else is stored with it.
+  pub sets-after : (before : List A) {mid after : List A} (i : ℕ) (vs ws : List A) {k : ℕ} → mid ≡ sets before i vs → after ≡ sets mid k ws → k ≡ i + length vs
+      → after ≡ sets before i (vs ++ ws)
+  sets-after before {mid} {after} i vs ws {k} e f h =
+      f ∙ (λ j. sets (e j) (h j) ws) ∙ sym (sets-append before i vs ws)
+
+  -- What becomes the same by stores is as long.
+  pub sets-long : (l m : List A) (i j : ℕ) (vs ws : List A) → sets l i vs ≡ sets m j ws → length l ≡ length m
+  sets-long l m i j vs ws e = sym (length-sets l i vs) ∙ ap length e ∙ length-sets m j ws
 
   pub getD-sets-outside : (l : List A) (i : ℕ) (vs : List A) (k : ℕ) (d : A) → ((c : ℕ) → c < length vs → k ≡ i + c → ⊥) → getD (sets l i vs) k d ≡ getD l k d
   getD-sets-outside l i [] k d h = refl

@@ -1,14 +1,15 @@
--- Laws of the caller's output: too short, and with room; a result that is stored from the start.
+-- Laws of the caller's output: too short, and with room; a result that is stored from the start; what is answered then.
 -- Assumes nothing.
 use Prim.Native.Nat.{ℕ, _+_, _≤_, _<_}
-use mathlib.Core.Path.{_≡_, ap, _∙_}
+use mathlib.Core.Path.{_≡_, refl, ap, _∙_}
 use mathlib.Core.Bool.{true, false}
 use mathlib.Core.List.{List, _++_}
 use native.Mathlib.Omega.{arith}
 use borrow.Author.Tests.{le-leb, lt-leb}
 use lib.ListN.{length, drop, take}
 use lib.Seq.{sets, sets-eq, take-length}
-use Rattle.base.specs.Outputs.{fits, written}
+use Rattle.base.specs.Outputs.{fits, written, Writes}
+use Rattle.base.specs.declared.Written.the-variants.{Length, Short}
 
 module _ (result out : List ℕ) where
   -- ---- too short
@@ -18,6 +19,9 @@ module _ (result out : List ℕ) where
 
   pub written-not : length out < length result → out ≡ written result out
   written-not h = rw (fits-not h)
+
+  pub writes-not : length out < length result → Writes result out out Short
+  writes-not h = record { output = written-not h; answer = rw (fits-not h) refl }
 
   -- ---- room for the result
 
@@ -39,3 +43,6 @@ module _ (result out : List ℕ) where
         ap (λ (l : List ℕ). take (length l) l ++ drop (length l) out) e
         ∙ ap (λ (l : List ℕ). l ++ drop (length result) out) (take-length result)
         ∙ written-all
+
+    pub writes-stored : {after : List ℕ} (n : ℕ) → n ≡ length result → after ≡ sets out 0 result → Writes result out after (Length n)
+    writes-stored n e f = record { output = f ∙ written-stored; answer = rw fits-all (ap Length e) }

@@ -1,15 +1,16 @@
 -- Laws of two lists compared place by place: the test decides what it means; two tests of each place are two comparisons. What the comparison
 -- means, of parts and of longer lists: as many on both sides, at a place, of the first n, of two lists after two others, of what is told of one
--- list; and what follows from it, or holds of a list and itself.
+-- list; and what follows from it, or holds of a list and itself. Two lists combined: how long, either way round, a list with itself.
 -- Assumes nothing.
 use Prim.Native.Nat.{ℕ, zero, suc}
 use mathlib.Core.Path.{_≡_, refl, ap}
 use mathlib.Core.Bool.{Bool, true, false, _&&_}
 use mathlib.Core.List.{List, [], _∷_, _++_, map}
+use native.Mathlib.Omega.{arith}
 use lib.ListN.{length, getD, take}
 use Rattle.base.specs.Truths.{Decides}
 use Rattle.base.proofs.Laws.Decides.{decides-true, decides-false, decides-and}
-use Rattle.base.specs.Pairs.{pairwise, Pairwise}
+use Rattle.base.specs.Pairs.{pairwise, Pairwise, combined}
 
 -- Two tests, and two more, by their places.
 interchange : (a b c d : Bool) → ((a && b) && (c && d)) ≡ ((a && c) && (b && d))
@@ -85,3 +86,21 @@ module _ {A B : Type 0} (P : A → B → Type 0) where
 pub pairwise-itself : {A : Type 0} (P : A → A → Type 0) → ((x : A) → P x x) → (l : List A) → Pairwise P l l
 pairwise-itself P f [] = tt
 pairwise-itself P f (x ∷ l) = (f x, pairwise-itself P f l)
+
+-- ---- two lists combined
+
+module _ {A : Type 0} (f : A → A → A) where
+  pub combined-length : (xs ys : List A) → length xs ≡ length ys → length (combined f xs ys) ≡ length xs
+  combined-length [] ys e = refl
+  combined-length (x ∷ xs) [] e = absurd (omega arith)
+  combined-length (x ∷ xs) (y ∷ ys) e = ap suc (combined-length xs ys (omega arith))
+
+  pub combined-swap : ((x y : A) → f x y ≡ f y x) → (xs ys : List A) → combined f xs ys ≡ combined f ys xs
+  combined-swap h [] [] = refl
+  combined-swap h [] (y ∷ ys) = refl
+  combined-swap h (x ∷ xs) [] = refl
+  combined-swap h (x ∷ xs) (y ∷ ys) = let e = combined-swap h xs ys in λ i. h x y i ∷ e i
+
+  pub combined-itself : ((x : A) → f x x ≡ x) → (xs : List A) → combined f xs xs ≡ xs
+  combined-itself h [] = refl
+  combined-itself h (x ∷ xs) = let e = combined-itself h xs in λ i. h x i ∷ e i

@@ -4,13 +4,14 @@
 -- and of digits that are written:
 --   digitValue-digitOf, isDigit-digitOf, digitOf-capital: of a value below 16
 --   byteOf-digits, digits-capital: of a byte
---   length-lineOf, bytesOf-lineOf, allDigits-lineOf, isLine-lineOf: of some bytes
+--   length-lineOf, bytesOf-lineOf, allDigits-lineOf, isLine-lineOf, lineOf-capitals: of some bytes
+--   lineOf-bytesOf: a line in capitals is written again from its bytes
 -- That each byte of bs is below 256 is said as (i : ℕ) → getD bs i 0 < 256.
 -- Assumes nothing.
 use mathlib.Core.Path.{_≡_, refl}
 use mathlib.Core.Bool.{Bool, true}
 use mathlib.Core.Logic.{_⊎_, inl, inr}
-use mathlib.Core.List.{List, [], _∷_, List·Memᴰ, List·Memᴰ·not-nil, List·Memᴰ·cases-cons}
+use mathlib.Core.List.{List, [], _∷_, List·Memᴰ, List·Memᴰ·head, List·Memᴰ·tail, List·Memᴰ·not-nil, List·Memᴰ·cases-cons, List·Memᴰ·append-cases}
 use Prim.Native.Nat.{ℕ, suc, _+_, _-_, _*_, _/_, _%_, _<_}
 use native.Mathlib.Decide.{decLt}
 use native.Mathlib.Omega.{arith}
@@ -20,6 +21,7 @@ use lib.ListN.{length, getD, replicate}
 use Rattle.hex.proofs.Laws.Table.{at}
 use Rattle.hex.specs.Digits.{Decimal, Capital, Small, Digit, digitValue, digitOf, digitsOf, isDigit, byteOf}
 use Rattle.hex.specs.Lines.{allDigits, isLine, bytesOf, lineOf}
+use Rattle.hex.specs.Letters.{InCapitals}
 
 -- ---- read
 
@@ -115,3 +117,30 @@ pub isLine-lineOf : (bs : List ℕ) → 0 < length bs → ((i : ℕ) → getD bs
 unfolding isLine
 isLine-lineOf bs n h =
     rw (length-lineOf, ne-eqb (2 * length bs) 0 (omega arith), eq-eqb (2 * length bs % 2) 0 (omega arith), allDigits-lineOf bs h)
+
+pub lineOf-capitals : (bs : List ℕ) → ((i : ℕ) → getD bs i 0 < 256) → InCapitals (lineOf bs)
+lineOf-capitals [] h c m = absurd (List·Memᴰ·not-nil m)
+lineOf-capitals (b ∷ bs) h c m =
+    elim (List·Memᴰ·append-cases (digitsOf b) m) [ inl k ↦ digits-capital b c (h 0) k | inr k ↦ lineOf-capitals bs (λ i. h (suc i)) c k ]
+
+-- A digit that is no small letter is written again from its value.
+digitOf-digitValue : (c : ℕ) → Decimal c ⊎ Capital c → digitOf (digitValue c % 16) ≡ c
+unfolding digitOf
+digitOf-digitValue c (inl h) =
+    let e = decimal-value c h in
+    let f : digitValue c % 16 ≡ c - 48 = omega arith in
+    rw (f, lt-ltb (c - 48) 10 (omega arith)) (omega arith)
+digitOf-digitValue c (inr h) =
+    let e = capital-value c h in
+    let f : digitValue c % 16 ≡ c - 55 = omega arith in
+    rw (f, le-ltb (c - 55) 10 (omega arith)) (omega arith)
+
+pub lineOf-bytesOf : (l : List ℕ) → length l % 2 ≡ 0 → InCapitals l → lineOf (bytesOf l) ≡ l
+lineOf-bytesOf [] h k = refl
+lineOf-bytesOf (a ∷ []) h k = absurd (omega arith)
+lineOf-bytesOf (a ∷ b ∷ l) h k =
+    let x = digitOf-digitValue a (k a (List·Memᴰ·head refl)) in
+    let y = digitOf-digitValue b (k b (List·Memᴰ·tail (List·Memᴰ·head refl))) in
+    let p : byteOf a b / 16 ≡ digitValue a % 16 = omega arith in
+    let q : byteOf a b % 16 ≡ digitValue b % 16 = omega arith in
+    rw (p, q, x, y, lineOf-bytesOf l (omega arith) (λ c m. k c (List·Memᴰ·tail (List·Memᴰ·tail m))))

@@ -3,7 +3,7 @@
 --   length-bytesOf: how many bytes there are
 --   bytesOf-drop, bytesOf-take, bytesOf-part: the bytes of what is left of a line, of its start, of a part
 --   allDigits-next, allDigits-stop: whether the characters from a place on are digits, by the first of them
---   line-length, bytesOf-line: a line has a first byte
+--   line-length, line-even, bytesOf-line: a line is pairs, and has a first byte
 --   line-digits, feed-no-digit: a line is of digits, and a line feed is none
 --   noLine-decides: the test of lines is false exactly of what is no line
 -- Assumes nothing.
@@ -14,7 +14,7 @@ use mathlib.Core.List.{List, [], _∷_, List·Memᴰ}
 use Prim.Native.Nat.{ℕ, zero, suc, _+_, _-_, _*_, _/_, _%_, _<_, _≤_}
 use native.Mathlib.Omega.{arith}
 use native.Mathlib.Numerals.{add-one}
-use borrow.Author.Tests.{lt-ltb, le-ltb}
+use borrow.Author.Tests.{lt-ltb, le-ltb, eqb-true}
 use lib.Dec.{eqb, leb, ltb}
 use lib.Seq.{drop-cons}
 use lib.ListN.{length, getD, take, drop}
@@ -88,6 +88,13 @@ line-digits l h =
     let even = eqb (length l % 2) 0 in
     let pairs = and-eq-true-iff (not (eqb (length l) 0)) (even && allDigits l) .0 h .1 in
     and-eq-true-iff even (allDigits l) .0 pairs .1
+
+pub line-even : (l : List ℕ) → isLine l ≡ true → length l % 2 ≡ 0
+unfolding isLine
+line-even l h =
+    let even = eqb (length l % 2) 0 in
+    let pairs = and-eq-true-iff (not (eqb (length l) 0)) (even && allDigits l) .0 h .1 in
+    eqb-true (length l % 2) 0 (and-eq-true-iff even (allDigits l) .0 pairs .0)
 
 -- A line feed is no digit.
 pub feed-no-digit : isDigit 10 ≡ false

@@ -2,21 +2,24 @@
 --   numberOf-append, numberOf-take: one byte more
 --   numberOf-below, field-below, line-field-below: the range of a number, of a field of bytes, of a field of a line
 --   field-one: a field of one byte
+--   bytes-append, bytes-first, bytes-rest: the bytes of two lists one after the other
+--   length-numberBytes, numberBytes-below, numberOf-numberBytes: the bytes of a number, which they say if it is small enough
+--   numberBytes-numberOf: the bytes of the number that some bytes say are those bytes
 -- That each byte of bs is below 256 is said as (i : ℕ) → getD bs i 0 < 256.
 -- Assumes nothing.
-use mathlib.Core.Path.{_≡_, refl}
+use mathlib.Core.Path.{_≡_, refl, sym, ap, _∙_}
 use mathlib.Core.List.{List, [], _∷_, _++_}
-use Prim.Native.Nat.{ℕ, zero, suc, _+_, _*_, _^_, _<_}
+use Prim.Native.Nat.{ℕ, zero, suc, _+_, _*_, _/_, _%_, _^_, _<_}
 use native.Mathlib.Omega.{arith}
-use native.Mathlib.Nat.{pow-succ', pow-le-pow-right, lt-of-lt-of-le}
+use native.Mathlib.Nat.{pow-succ', pow-le-pow-right, lt-of-lt-of-le, mod-one, mod-lt, mod-eq-of-lt, mul-assoc, add-comm, add-mul-div-right}
 use native.Mathlib.Decide.{decLt}
-use lib.Arith.{digits-lt}
+use lib.Arith.{digits-lt, digits-div, mod-mul}
 use lib.Dec.{lit<}
 use lib.Pow.{pow-add}
 use lib.Seq.{take-suc, getD-take, getD-drop}
 use lib.ListN.{length, getD, take, drop, length-append, length-take, List·getD-eq-default}
 use Rattle.hex.specs.Lines.{bytesOf}
-use Rattle.hex.specs.Numbers.{numberOf, field}
+use Rattle.hex.specs.Numbers.{numberOf, field, numberBytes}
 use Rattle.hex.proofs.Laws.Lines.{bytesOf-below}
 
 pub numberOf-append : (bs : List ℕ) (b : ℕ) → numberOf (bs ++ (b ∷ [])) ≡ numberOf bs * 256 + b
@@ -54,3 +57,62 @@ field-one zero [] = refl
 field-one (suc i) [] = refl
 field-one zero (b ∷ bs) = omega arith
 field-one (suc i) (b ∷ bs) = field-one i bs
+
+-- ---- lists of bytes, each below 256
+
+pub bytes-append : (bs cs : List ℕ) → ((i : ℕ) → getD bs i 0 < 256) → ((i : ℕ) → getD cs i 0 < 256) → (i : ℕ) → getD (bs ++ cs) i 0 < 256
+bytes-append [] cs h k i = k i
+bytes-append (b ∷ bs) cs h k zero = h 0
+bytes-append (b ∷ bs) cs h k (suc i) = bytes-append bs cs (λ j. h (suc j)) k i
+
+pub bytes-first : (bs cs : List ℕ) → ((i : ℕ) → getD (bs ++ cs) i 0 < 256) → (i : ℕ) → getD bs i 0 < 256
+bytes-first [] cs h i = lit< tt
+bytes-first (b ∷ bs) cs h zero = h 0
+bytes-first (b ∷ bs) cs h (suc i) = bytes-first bs cs (λ j. h (suc j)) i
+
+pub bytes-rest : (bs cs : List ℕ) → ((i : ℕ) → getD (bs ++ cs) i 0 < 256) → (i : ℕ) → getD cs i 0 < 256
+bytes-rest [] cs h i = h i
+bytes-rest (b ∷ bs) cs h i = bytes-rest bs cs (λ j. h (suc j)) i
+
+-- ---- the bytes of a number
+
+pub length-numberBytes : (w n : ℕ) → length (numberBytes w n) ≡ w
+length-numberBytes zero n = refl
+length-numberBytes (suc w) n = ap suc (length-numberBytes w n)
+
+pub numberBytes-below : (w n i : ℕ) → getD (numberBytes w n) i 0 < 256
+numberBytes-below zero n i = lit< tt
+numberBytes-below (suc w) n zero = mod-lt (n / 256 ^ w) (lit< tt)
+numberBytes-below (suc w) n (suc i) = numberBytes-below w n i
+
+some-power : (w : ℕ) → 0 < 256 ^ w
+some-power w = lt-of-lt-of-le (lit< tt) (pow-le-pow-right (lit< tt) {i = 0} {j = w} (omega arith))
+
+-- They say what is left of the number in so many bytes.
+numberOf-rest : (w n : ℕ) → numberOf (numberBytes w n) ≡ n % 256 ^ w
+numberOf-rest zero n = sym (mod-one n)
+numberOf-rest (suc w) n =
+    let d = (n / 256 ^ w) % 256 in
+    ap (λ (k : ℕ). d * 256 ^ k + numberOf (numberBytes w n)) (length-numberBytes w n)
+    ∙ ap (λ (k : ℕ). d * 256 ^ w + k) (numberOf-rest w n)
+    ∙ sym (mod-mul n {m = 256} {c = 256 ^ w} (lit< tt) (some-power w))
+    ∙ ap (λ (k : ℕ). n % k) (sym (pow-succ' 256 w))
+
+pub numberOf-numberBytes : (w n : ℕ) → n < 256 ^ w → numberOf (numberBytes w n) ≡ n
+numberOf-numberBytes w n h = numberOf-rest w n ∙ mod-eq-of-lt h
+
+-- What stands above so many bytes is not looked at.
+numberBytes-low : (w c n : ℕ) → numberBytes w (c * 256 ^ w + n) ≡ numberBytes w n
+numberBytes-low zero c n = refl
+numberBytes-low (suc w) c n =
+    let e : c * 256 ^ suc w ≡ (c * 256) * 256 ^ w = rw pow-succ' (sym (mul-assoc c 256 (256 ^ w))) in
+    let d : ((c * 256) * 256 ^ w + n) / 256 ^ w ≡ n / 256 ^ w + c * 256 =
+    ap (λ (m : ℕ). m / 256 ^ w) (add-comm ((c * 256) * 256 ^ w) n) ∙ add-mul-div-right n (c * 256) (some-power w) in
+    let f : (n / 256 ^ w + c * 256) % 256 ≡ (n / 256 ^ w) % 256 = omega arith in
+    rw (e, d, f, numberBytes-low w (c * 256) n)
+
+pub numberBytes-numberOf : (bs : List ℕ) → ((i : ℕ) → getD bs i 0 < 256) → numberBytes (length bs) (numberOf bs) ≡ bs
+numberBytes-numberOf [] h = refl
+numberBytes-numberOf (b ∷ bs) h =
+    let small = numberOf-below bs (λ i. h (suc i)) in
+    rw (digits-div b small, mod-eq-of-lt (h 0), numberBytes-low (length bs) b (numberOf bs), numberBytes-numberOf bs (λ i. h (suc i)))

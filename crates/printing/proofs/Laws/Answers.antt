@@ -19,11 +19,11 @@ use Rattle.listing.specs.Bytes.{bytes, entryBytes}
 use Rattle.listing.proofs.Laws.Puts.{length-bytes}
 use Rattle.striking.specs.Texts.{struckText}
 use Rattle.analyser.specs.Calls.{listOf, listWritten, strikeOf, strikeWritten}
-use Rattle.analyser.specs.Views.{listAnswer, strikeAnswer}
+use Rattle.analyser.specs.Views.{listAnswer, linesAnswer}
 use Rattle.analyser.specs.declared.Listed.{Listed}
 use Rattle.analyser.specs.declared.Listed.the-variants.{Count, Refused as ListRefused}
-use Rattle.analyser.specs.declared.Struck.{Struck}
-use Rattle.analyser.specs.declared.Struck.the-variants.{Length, Refused as StrikeRefused}
+use Rattle.analyser.specs.declared.LinesWritten.{LinesWritten}
+use Rattle.analyser.specs.declared.LinesWritten.the-variants.{Length, Refused as StrikeRefused}
 use Rattle.analyser.proofs.Laws.Outputs.{room, no-room, list-told, list-refused, list-wrote, strike-told, strike-refused, strike-wrote, strike-left}
 use Rattle.printing.specs.Printed.{refusalLine, hexLines, listPrinted, struckPrinted, Prints}
 use Rattle.printing.proofs.Laws.Lines.{lines-bytes}
@@ -55,11 +55,11 @@ module _ (input out after : List ℕ) (r : Listed) (long : length out ≡ entryB
 
 -- ---- what Strike answers
 
-module _ (input out after : List ℕ) (r : Struck) (a : strikeAnswer r ≡ strikeOf input out) (o : after ≡ strikeWritten input out) where
+module _ (input out after : List ℕ) (r : LinesWritten) (a : linesAnswer r ≡ strikeOf input out) (o : after ≡ strikeWritten input out) where
   pub strike-whole : (n : ℕ) → r ≡ Length n → Prints (struckPrinted input (parse input)) out after n
   unfolding struckPrinted
   strike-whole n e =
-      let w = strike-told input out n (sym a ∙ ap strikeAnswer e) in
+      let w = strike-told input out n (sym a ∙ ap linesAnswer e) in
       let result = struckText input (w .of) in
       let l = room result out (w .keeps) in
       prints-other (sym (ap (struckPrinted input) (w .read)))
@@ -69,14 +69,14 @@ module _ (input out after : List ℕ) (r : Struck) (a : strikeAnswer r ≡ strik
 
   module _ (number line : ℕ) (e : r ≡ StrikeRefused number line) where
     why : (parse input ≡ refusedBy number line) ⊎ ((t : Table) × (parse input ≡ returned t) × (number ≡ shortOutput) × (length out < length (struckText input t)))
-    why = elim (strike-refused input out number line (sym a ∙ ap strikeAnswer e)) [
+    why = elim (strike-refused input out number line (sym a ∙ ap linesAnswer e)) [
       | inl p ↦ inl p
       | inr w ↦ let n = no-room (struckText input (w .0)) out number (w .2) in inr (w .0, w .1, n .0, n .1)
     ]
 
     -- A refusal writes nothing.
     unchanged : after ≡ out
-    unchanged = o ∙ strike-left input out number line (sym a ∙ ap strikeAnswer e)
+    unchanged = o ∙ strike-left input out number line (sym a ∙ ap linesAnswer e)
 
     -- A text's own refusals have smaller numbers.
     pub strike-short : number ≡ shortOutput → Prints (struckPrinted input (parse input)) out after 0

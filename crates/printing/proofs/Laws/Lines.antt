@@ -1,11 +1,13 @@
 -- Laws of the lines of entries: those of bytes that are entries', how long they are, and one line more, as a loop goes through the bytes.
 -- Assumes nothing.
-use Prim.Native.Nat.{ℕ, suc, _+_, _-_, _*_, _/_, _≤_, _<_}
-use mathlib.Core.Path.{_≡_, refl, sym, ap, _∙_}
-use mathlib.Core.List.{List, [], _∷_, _++_, append-nil, append-assoc}
+use Prim.Native.Nat.{ℕ, _+_, _-_, _*_, _/_, _≤_, _<_}
+use mathlib.Core.Path.{_≡_, refl, ap, _∙_}
+use mathlib.Core.List.{List, [], _∷_, _++_}
 use native.Mathlib.Omega.{arith}
-use lib.ListN.{length, getD, take, drop, length-drop, drop-of-length-le}
-use lib.Seq.{sets, sets-eq, take-all, take-length, drop-cons, drop-drop}
+use lib.ListN.{length, take, drop, length-drop}
+use lib.Seq.{drop-drop}
+use Rattle.hex.specs.Lines.{lineOf}
+use Rattle.reader.specs.Lines.{lineFeed}
 use Rattle.kinds.specs.Entries.{Entry}
 use Rattle.listing.specs.Bytes.{bytes, entryBytes}
 use Rattle.listing.proofs.Laws.Puts.{bytes-none, bytes-more}
@@ -33,19 +35,25 @@ length-hex (a ∷ b ∷ c ∷ l) = let h = length-hex l in omega arith
 
 -- ---- one line more
 
-module _ (l : List ℕ) (i : ℕ) where
-  -- The line of the bytes of entry i.
-  abbrev pub lineAt : List ℕ
-  lineAt = entryLine (getD l (entryBytes * i) 0) (getD l (entryBytes * i + 1) 0) (getD l (entryBytes * i + 2) 0)
+-- The line of the first three bytes, and the other lines.
+first-line : (m : List ℕ) → entryBytes ≤ length m → hexLines m ≡ lineOf (take entryBytes m) ++ (lineFeed ∷ hexLines (drop entryBytes m))
+unfolding hexLines
+first-line [] h = absurd (omega arith)
+first-line (a ∷ []) h = absurd (omega arith)
+first-line (a ∷ b ∷ []) h = absurd (omega arith)
+first-line (a ∷ b ∷ c ∷ m) h = refl
 
-  pub line-next : i < length l / entryBytes → hexLines (drop (entryBytes * i) l) ≡ lineAt ++ hexLines (drop (entryBytes * (i + 1)) l)
-  unfolding hexLines
+module _ (l : List ℕ) (i : ℕ) where
+  -- The bytes of entry i, as a part: from its first byte up to the next entry's.
+  abbrev pub entryAt : List ℕ
+  entryAt = take (entryBytes * i + entryBytes - entryBytes * i) (drop (entryBytes * i) l)
+
+  pub line-next : i < length l / entryBytes → hexLines (drop (entryBytes * i) l) ≡ lineOf entryAt ++ (lineFeed ∷ hexLines (drop (entryBytes * (i + 1)) l))
   line-next h =
       let j = entryBytes * i in
-      let one : suc j ≡ j + 1 = omega arith in
-      let two : suc (j + 1) ≡ j + 2 = omega arith in
-      let three : suc (j + 2) ≡ entryBytes * (i + 1) = omega arith in
-      rw (drop-cons l j 0 (omega arith), one, drop-cons l (j + 1) 0 (omega arith), two, drop-cons l (j + 2) 0 (omega arith), three)
+      let part : j + entryBytes - j ≡ entryBytes = omega arith in
+      let next : entryBytes * (i + 1) ≡ j + entryBytes = omega arith in
+      rw (part, next, ← drop-drop entryBytes j l) (first-line (drop j l) (omega (arith, length-drop j l)))
 
   pub line-end : length l / entryBytes ≤ i → hexLines (drop (entryBytes * i) l) ≡ []
   unfolding hexLines
@@ -56,17 +64,3 @@ module _ (l : List ℕ) (i : ℕ) where
       none (a ∷ []) b = refl
       none (a ∷ b ∷ []) h = refl
       none (a ∷ b ∷ c ∷ m) h = absurd (omega arith)
-
--- Some bytes copied to the part from place n on are stored there.
-pub part-stored : (l more : List ℕ) (n : ℕ) → n + length more ≤ length l
-    → take n l ++ ((take (length more) more ++ drop (length more) (take (length l - n) (drop n l))) ++ drop (length l - n) (drop n l)) ≡ sets l n more
-part-stored l more n h =
-    let d = length-drop n l in
-    rw (
-      take-all (length l - n) (drop n l) (omega arith),
-      drop-of-length-le (drop n l) {i = length l - n} (omega arith),
-      take-length more,
-      append-nil (more ++ drop (length more) (drop n l)),
-      drop-drop (length more) n l,
-    )
-    (sym (sets-eq more l n h ∙ append-assoc (take n l) more (drop (n + length more) l)))

@@ -1,18 +1,21 @@
 -- `put_entries` meets its contract: the lines written, and those of the entries from here on, are all lines. Assumes nothing.
 use borrow.Author.Needs.{needs}
 use Prim.Native.Nat.{ℕ, _+_, _-_, _*_, _/_, _≤_}
-use mathlib.Core.Path.{_≡_, sym, ap, subst, _∙_}
-use mathlib.Core.List.{List}
+use mathlib.Core.Path.{_≡_, refl, sym, ap, _∙_}
+use mathlib.Core.List.{List, [], _∷_}
 use native.Mathlib.Omega.{arith}
 use denote.Ref.{now}
-use lib.ListN.{length, drop}
+use lib.ListN.{length, set, drop, length-take, length-drop}
 use lib.Seq.{length-sets}
 use Rattle.base.proofs.Laws.Outputs.{written-stored}
 use Rattle.base.proofs.Laws.Copying.{Copying, copying-start, copying-end, copying-more}
+use Rattle.hex.specs.Lines.{lineOf}
+use Rattle.hex.proofs.Laws.Digits.{length-lineOf}
+use Rattle.reader.specs.Lines.{lineFeed}
 use Rattle.listing.specs.Bytes.{entryBytes}
 use Rattle.printing.specs.Limits.{lineBytes}
 use Rattle.printing.specs.Printed.{hexLines}
-use Rattle.printing.proofs.Laws.Lines.{length-hex, lineAt, line-next, line-end}
+use Rattle.printing.proofs.Laws.Lines.{length-hex, entryAt, line-next, line-end}
 use Rattle.printing.proofs.Laws.Printed.{prints-not, prints-all}
 use Rattle.printing.proofs.put_entries.Statement.{statement}
 use Rattle.printing.proofs.put_entries.Tie as tie
@@ -47,18 +50,27 @@ short c =
     let e = length-hex (now (a .entries)) in
     prints-not (hexLines (now (a .entries))) (now (a .out)) (omega arith)
 
--- after the line of entry i is put
-module _ (c : tie.After-put-line I μ) where
+-- after the digits of entry i are put
+module _ (c : tie.After-put I μ) where
   abbrev l : tie.At-loop I μ
-  l = c .before .before .before .before .before .before
+  l = c .before .before .before .before
 
-  more : Copying (out l) (c .put-line .last .1 .1 .1 .1 .0) (lineBytes * (l .loop .i + 1)) (hexLines (entries l)) (hexLines (drop (entryBytes * (l .loop .i + 1)) (entries l)))
-  more =
-      copying-more (lineAt (entries l) (l .loop .i))
-      (subst (Copying (out l) (l .loop .out) (lineBytes * l .loop .i) (hexLines (entries l))) (line-next (entries l) (l .loop .i) (c .before .before .before .before .before .loop-test .taken))
-      (l .loop .inv))
-      (c .put-line .ensures)
-      (omega arith)
+  abbrev i : ℕ
+  i = l .loop .i
+
+  -- the lines from the next entry on
+  abbrev left : List ℕ
+  left = hexLines (drop (entryBytes * (i + 1)) (entries l))
+
+  digits : Copying (out l) (c .put .last .1 .0) (lineBytes * i + 2 * entryBytes) (hexLines (entries l)) (lineFeed ∷ left)
+  digits =
+      copying-more (lineOf (entryAt (entries l) i))
+      (rw (line-next (entries l) i (c .before .before .before .loop-test .taken)) at (l .loop .inv))
+      (c .put .ensures)
+      (simp (length-lineOf, length-take, length-drop) (omega arith))
+
+  more : Copying (out l) (set (c .put .last .1 .0) (lineBytes * i + 2 * entryBytes) lineFeed) (lineBytes * (i + 1)) (hexLines (entries l)) left
+  more = copying-more (lineFeed ∷ []) digits refl (omega arith)
 
 whole : tie.Need-returns-2 I μ
 whole c =
@@ -67,8 +79,7 @@ whole c =
     let r = room k in
     let h : length (hexLines (entries k)) ≤ length (out k) = omega arith in
     prints-all (hexLines (entries k)) (out k) _ _ h
-    (copying-end
-    (subst (Copying (out k) (k .loop .out) (lineBytes * k .loop .i) (hexLines (entries k))) (line-end (entries k) (k .loop .i) (c .loop-test .left)) (k .loop .inv))
+    (copying-end (rw (line-end (entries k) (k .loop .i) (c .loop-test .left)) at (k .loop .inv))
     ∙ written-stored (hexLines (entries k)) (out k) h)
     (sym e)
 
@@ -80,9 +91,13 @@ put-entries-spec =
     μ
     short
     (λ c. copying-start _ _)
-    (λ c. search needs) (λ c. search needs) (λ c. search needs) (λ c. search needs) (λ c. search needs) (λ c. search needs)
-    (λ c. let h = room (c .before .before .before .before) in search needs)
-    (λ c κs. let k = c .before .before .before .before .before in let h = room k in let e = long k in omega arith)
+    (λ c. search needs)
+    (λ c. let h = room (c .before) in search needs)
+    (λ c. search needs) (λ c. search needs) (λ c. search needs) (λ c. search needs)
+    (λ c κs. let k = c .before .before .before in let h = room k in let e = long k in simp (length-take, length-drop) (omega arith))
+    (λ c. search needs)
+    (λ c. let h = room (l (c .before .before)) in search needs)
+    (λ c. let k = l (c .before .before) in let h = room k in let e = long k in search needs)
     (λ c. search needs) (λ c. search needs)
     (λ c. more (c .before .before))
     (λ c. let h = room (c .before) in search needs)

@@ -6,13 +6,12 @@ use Rattle.printing.proofs.put_refusal.Tie as tie
 returns : tie.Need-returns
 returns c =
     let p = c .before .before in
-    let d = p .before .before .before in
-    rw (d .low-digit2 .ensures, d .before .high-digit2 .ensures, d .before .before .low-digit .ensures, d .before .before .before .high-digit .ensures) at (p .put .ensures)
+    let d = p .before .before .before .before in
+    rw (d .put .ensures) at (p .put2 .ensures)
 
 pub put-refusal-spec : {M : Type 1} → statement M
 put-refusal-spec =
     tie.close
     (tie.spec
-    (λ c κs. search needs) (λ c κs. search needs) (λ c κs. search needs) (λ c κs. search needs) (λ c. search needs)
-    (λ c κs. search needs) (λ c. search needs)
+    (λ c. search needs) (λ c. search needs) (λ c κs. search needs) (λ c. search needs) (λ c κs. search needs) (λ c. search needs)
     returns)

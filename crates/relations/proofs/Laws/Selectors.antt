@@ -68,7 +68,7 @@ holds-length (r ∷ s) [] h = absurd h
 holds-length (r ∷ s) (x ∷ p) h = ap suc (holds-length s p (h .1))
 
 -- The packet of the lows is in the selector, where no low is above its high.
-lows-in : (s : Selector) → Ordered s → Holds s (lows s)
+pub lows-in : (s : Selector) → Ordered s → Holds s (lows s)
 unfolding Holds
 lows-in [] o = tt
 lows-in (r ∷ s) o = (record { low = omega arith; high = o .0 }, lows-in s (o .1))
@@ -76,7 +76,7 @@ lows-in (r ∷ s) o = (record { low = omega arith; high = o .0 }, lows-in s (o .
 -- ---- ⪰
 
 -- Field by field.
-contains-fields : (r q : Range) (s1 s2 : Selector) → Ordered (q ∷ s2) → Contains (r ∷ s1) (q ∷ s2)
+pub contains-fields : (r q : Range) (s1 s2 : Selector) → Ordered (q ∷ s2) → Contains (r ∷ s1) (q ∷ s2)
     → ((r .low ≤ q .low) × (q .high ≤ r .high)) × Contains s1 s2
 unfolding Holds
 contains-fields r q s1 s2 o c =

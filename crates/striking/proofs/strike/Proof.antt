@@ -1,14 +1,14 @@
 -- `strike` meets its contract: the bytes of the lines that are kept are the struck text. Assumes nothing.
 use borrow.Author.Needs.{needs}
 use Prim.Native.Nat.{ℕ, _≤_, _<_}
-use mathlib.Core.Path.{_≡_, refl, ap, _∙_}
+use mathlib.Core.Path.{_≡_, ap, _∙_}
 use mathlib.Core.Bool.{Bool}
 use mathlib.Core.List.{List}
 use native.Mathlib.Omega.{arith}
 use denote.Ref.{now}
 use lib.ListN.{length}
 use lib.Seq.{sets, length-sets}
-use Rattle.base.proofs.Laws.Outputs.{fits-not, written-not, fits-all, written-stored}
+use Rattle.base.proofs.Laws.Outputs.{writes-not, writes-stored}
 use Rattle.policy.specs.Model.{linesBefore}
 use Rattle.policy.specs.Views.{tableOf}
 use Rattle.policy.specs.declared.table.Table.{Table as TableStruct}
@@ -16,7 +16,6 @@ use Rattle.policy.proofs.Laws.Tables.{sized, Counted, counted}
 use Rattle.reader.proofs.Laws.Wellformed.{accepted-wellformed}
 use Rattle.striking.specs.Texts.{struckText}
 use Rattle.striking.specs.Bytes.{keeps, keptBytes}
-use Rattle.striking.specs.declared.Written.the-variants.{Length}
 use Rattle.striking.proofs.Laws.Bytes.{struck-bytes}
 use Rattle.striking.proofs.strike.Statement.{statement}
 use Rattle.striking.proofs.strike.Tie as tie
@@ -66,7 +65,7 @@ short c =
     let h = c .if1 .taken in
     let n = long k in
     let l : length (out f) < length (result f) = omega arith in
-    record { output = written-not (result f) (out f) l; answer = rw (fits-not (result f) (out f) l) refl }
+    writes-not (result f) (out f) l
 
 room : tie.Need-copy-kept-requires
 room c κs =
@@ -91,7 +90,7 @@ whole c =
     let h = d .before .before .before .if1 .left in
     let n = long k in
     let l : length (result f) ≤ length (out f) = omega arith in
-    record { output = stored d ∙ written-stored (result f) (out f) l; answer = rw (fits-all (result f) (out f) l) (ap Length n) }
+    writes-stored (result f) (out f) l _ (omega arith) (stored d)
 
 pub strike-spec : {M : Type 1} → statement M
 strike-spec =

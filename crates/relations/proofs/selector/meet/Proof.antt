@@ -6,14 +6,7 @@ use Rattle.relations.proofs.selector.meet.Tie as tie
 
 returns : tie.Need-returns
 unfolding meet
-returns c =
-    rw (
-      c .meet5 .ensures,
-      c .before .meet4 .ensures,
-      c .before .before .meet3 .ensures,
-      c .before .before .before .meet2 .ensures,
-      c .before .before .before .before .meet .ensures,
-    )
+returns c = cc
 
 pub meet-spec : {M : Type 1} → statement M
 meet-spec = tie.close (tie.spec (λ c κs. search needs) (λ c κs. search needs) (λ c κs. search needs) (λ c κs. search needs) (λ c κs. search needs) returns)

@@ -1,0 +1,20 @@
+-- `joinable` meets its contract: it is the test of the group and of both roots. Assumes nothing.
+use borrow.Author.Needs.{needs}
+use Rattle.joining.specs.Joining.{joinable}
+use Rattle.joining.proofs.joinable.Statement.{statement}
+use Rattle.joining.proofs.joinable.Tie as tie
+
+returns : tie.Need-returns
+unfolding joinable
+returns c =
+    let third = c .before in
+    let second = third .before in
+    let first = second .before in
+    rw (c .root4 .ensures, third .root3 .ensures, second .root2 .ensures, first .root .ensures, first .before .same-group .ensures)
+
+pub joinable-spec : {M : Type 1} → statement M
+joinable-spec =
+    tie.close
+    (tie.spec
+    (λ c κs. search needs) (λ c κs. search needs) (λ c κs. search needs) (λ c κs. search needs) (λ c κs. search needs)
+    returns)

@@ -1,0 +1,2 @@
+-- Document 02, [2]: joining two rows.
+pub mod Joining
