@@ -3,6 +3,7 @@ use borrow.Author.Needs.{needs}
 use borrow.Author.Tests.{not-true, not-false}
 use native.Mathlib.Omega.{arith}
 use mathlib.Core.Path.{_≡_, sym, ap, subst, _∙_}
+use mathlib.Core.Bool.{true}
 use mathlib.Core.List.{List}
 use Prim.Native.Nat.{ℕ, _<_}
 use denote.Ref.{now}
@@ -131,6 +132,10 @@ module _ (c : tie.After-joinable) where
   decides : Decides (c .joinable .result) (Joinable (parentOf (table (k rows))) (rowAt (table (k rows)) (i (k rows))) (rowAt (table (k rows)) (j (k rows))))
   decides = subst (λ b. Decides b (Joinable (parentOf (table (k rows))) (rowAt (table (k rows)) (i (k rows))) (rowAt (table (k rows)) (j (k rows))))) (sym tested) (joinable-decides _ _ _)
 
+-- the rows can be joined where the test is passed
+can-join : (c : tie.Else4) → c .before .joinable .result ≡ true
+can-join c = not-false (c .before .joinable .result) (c .if4 .left)
+
 differ : tie.Need-returns-4
 differ c =
     let q = c .before in
@@ -157,7 +162,7 @@ module _ (c : tie.After-put-line) where
   done : (roomAnswer (c .put-line .result) ≡ joinOf (now (s (e f) .args .text)) (i f) (j f) (now (s (e f) .args .out)))
       × (c .put-line .last .1 .1 .1 .0 ≡ joinWritten (now (s (e f) .args .text)) (i f) (j f) (now (s (e f) .args .out)))
   done =
-      join-writes _ _ (taken (e f) .read) _ _ _ (first-there f) (second-there f) (decides known .yes (not-false _ (tried .if4 .left))) _ _
+      join-writes _ _ (taken (e f) .read) _ _ _ (first-there f) (second-there f) (decides known .yes (can-join tried)) _ _
       (subst (λ (l : List ℕ). Writes l (now (s (e f) .args .out)) (c .put-line .last .1 .1 .1 .0) (c .put-line .result)) line (c .put-line .ensures))
 
 pub join-spec : {M : Type 1} → statement M
