@@ -72,14 +72,9 @@ pub fn decode(line: &[u8]) -> Option<Vec<u8>> {
         .collect()
 }
 
-/// The value of a digit 0-9 A-F a-f.
+/// The value of a digit 0-9 A-F a-f, by the standard library.
 fn digit(character: u8) -> Option<u8> {
-    match character {
-        b'0'..=b'9' => Some(character - b'0'),
-        b'A'..=b'F' => Some(character - b'A' + 10),
-        b'a'..=b'f' => Some(character - b'a' + 10),
-        _ => None,
-    }
+    char::from(character).to_digit(16).map(|value| value as u8)
 }
 
 /// Whether the kind is known, the length is the kind's, and a row has at most eight gateways.

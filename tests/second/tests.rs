@@ -1,10 +1,12 @@
-//! Document 01's table T and its edges, the examples of the kinds, Join's edges, and demand 3 on seeded tables.
+//! Document 01's table T and its edges, the examples of the kinds, Join's edges, and demand 3 on seeded tables; and all 256 bytes
+//! as digits, read by the static library.
 
 use crate::calls::{self, Reading};
 use crate::cases::case;
 use crate::couples::Couple;
 use crate::frames::{lines, text};
 use crate::kinds::list;
+use crate::library;
 use crate::printed;
 use crate::questions::Questions;
 use crate::random::Random;
@@ -153,6 +155,22 @@ fn small_letters_are_read_as_capitals() {
     assert_eq!(of_small.witnesses, of_capitals.witnesses);
     assert_eq!(of_small.struck, of_capitals.struck.to_ascii_lowercase());
     assert_eq!(of_small.lines, of_capitals.lines.to_ascii_lowercase());
+}
+
+#[test]
+fn the_library_reads_every_byte_alike_at_every_place() {
+    let drop_all = b"040000000000FFFFFFFF00000000FFFFFFFF0000FFFF0000FFFF00FF";
+    let mut lines = table_t();
+    lines.insert(11, drop_all.to_vec());
+    let whole = text(&lines);
+    for place in 0..whole.len() {
+        for byte in 0..=255 {
+            let mut other = whole.clone();
+            other[place] = byte;
+            let difference = library::difference(&other, 1);
+            assert_eq!(difference, None, "place {place}, byte {byte}");
+        }
+    }
 }
 
 #[test]

@@ -1,6 +1,4 @@
 -- The laws that crates above cite.
-pub mod Table
-pub mod Entries
 pub mod Lines
 pub mod Numbers
 pub mod Digits

@@ -1,6 +1,4 @@
 // Hexadecimal lines: digits, bytes and numbers in, digits out. No function here knows a frame.
-mod table;
-
 ghost use mathlib.Core.Path.{_≡_};
 ghost use Prim.Native.Nat.{_+_, _*_, _/_, _%_, _<_, _≤_};
 ghost use lib.ListN.{length, getD};
@@ -9,22 +7,27 @@ ghost use Rattle.hex.specs.Digits.{digitValue, byteOf, digitOf};
 ghost use Rattle.hex.specs.Lines.{isLine, bytesOf, lineOf};
 ghost use Rattle.hex.specs.Numbers.{numberOf, field};
 
-// A digit's value, or 16 for a byte that is no digit.
+// A digit's value, or 16 for a byte that is no digit. By its last four bits: in 0-9 they are the value, in A-F and in a-f 9 less.
 pub fn digit(c: u8) -> u8
     ensures { λ r. ⌜ r ≡ digitValue c ⌝ }
 {
-    table::DIGITS[c as usize]
+    match c {
+        b'0'..=b'9' => c % 16,
+        b'A'..=b'F' => (c + 9) % 16,
+        b'a'..=b'f' => (c + 9) % 16,
+        _ => 16,
+    }
 }
 
 // The byte that a pair of digits stands for.
 pub fn byte(a: u8, b: u8) -> u8
     ensures { λ r. ⌜ r ≡ byteOf a b ⌝ }
 {
-    let digits = table::DIGITS;
-    16 * (digits[a as usize] % 16) + digits[b as usize] % 16
+    16 * (digit(a) % 16) + digit(b) % 16
 }
 
-// Whether a line is pairs of digits, at least one pair.
+// Whether a line is pairs of digits, at least one pair. Looks at every character, also after one that is no digit: without a way out
+// of the loop the compiler takes sixteen at a time.
 pub fn is_line(line: &[u8]) -> bool
     ensures { λ r. ⌜ r ≡ isLine (now (line .entry)) ⌝ }
 {
@@ -34,16 +37,13 @@ pub fn is_line(line: &[u8]) -> bool
     if line.len() % 2 != 0 {
         return false;
     }
-    let digits = table::DIGITS;
+    let mut digits = true;
     let mut i = 0;
     while i < line.len() {
-        let c = line[i];
-        if digits[c as usize] >= 16 {
-            return false;
-        }
+        digits = digits & (digit(line[i]) < 16);
         i += 1;
     }
-    true
+    digits
 }
 
 // The byte at place i of a line.

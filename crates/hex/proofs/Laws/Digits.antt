@@ -1,5 +1,6 @@
 -- Laws of digits that are read:
---   decimal-value, capital-value, small-value: the value of 0-9, of A-F and of a-f
+--   decimal-value, capital-value, small-value, other-value: the value of 0-9, of A-F, of a-f, and of every other character
+--   digit-decides: the test of digits is true exactly of these three ranges
 --   bytesOf-pair: the byte of two digits
 -- and of digits that are written:
 --   digitValue-digitOf, isDigit-digitOf, digitOf-capital: of a value below 16
@@ -9,21 +10,26 @@
 -- That each byte of bs is below 256 is said as (i : ℕ) → getD bs i 0 < 256.
 -- Assumes nothing.
 use mathlib.Core.Path.{_≡_, refl}
-use mathlib.Core.Bool.{Bool, true}
+use mathlib.Core.Bool.{true, _&&_}
 use mathlib.Core.Logic.{_⊎_, inl, inr}
 use mathlib.Core.List.{List, [], _∷_, List·Memᴰ, List·Memᴰ·head, List·Memᴰ·tail, List·Memᴰ·not-nil, List·Memᴰ·cases-cons, List·Memᴰ·append-cases}
-use Prim.Native.Nat.{ℕ, suc, _+_, _-_, _*_, _/_, _%_, _<_}
+use Prim.Native.Nat.{ℕ, suc, _+_, _-_, _*_, _/_, _%_, _<_, _≤_}
 use native.Mathlib.Decide.{decLt}
 use native.Mathlib.Omega.{arith}
-use borrow.Author.Tests.{le-leb, lt-leb, lt-ltb, le-ltb, ne-eqb, eq-eqb, eqb-true}
-use lib.Dec.{eqb}
-use lib.ListN.{length, getD, replicate}
-use Rattle.hex.proofs.Laws.Table.{at}
+use borrow.Author.Tests.{le-leb, lt-leb, lt-ltb, le-ltb, ne-eqb, eq-eqb}
+use lib.Dec.{leb}
+use lib.ListN.{length, getD}
+use Rattle.base.specs.Truths.{Decides}
+use Rattle.base.proofs.Laws.Decides.{decides-true, decides-false, decides-leb, decides-and, decides-or, decides-fails, decided}
 use Rattle.hex.specs.Digits.{Decimal, Capital, Small, Digit, digitValue, digitOf, digitsOf, isDigit, byteOf}
 use Rattle.hex.specs.Lines.{allDigits, isLine, bytesOf, lineOf}
 use Rattle.hex.specs.Letters.{InCapitals}
 
 -- ---- read
+
+-- Whether c is in a range, by the range's two ends.
+between : (low c high : ℕ) → Decides (leb low c && leb c high) ((low ≤ c) × (c ≤ high))
+between low c high = decides-and _ _ (decides-leb low c) (decides-leb c high)
 
 module _ (c : ℕ) where
   pub decimal-value : Decimal c → digitValue c ≡ c - 48
@@ -46,10 +52,26 @@ module _ (c : ℕ) where
         le-leb c 102 (h .1),
       )
 
+  pub other-value : (Decimal c → ⊥) → (Capital c → ⊥) → (Small c → ⊥) → digitValue c ≡ 16
+  unfolding digitValue
+  other-value d u l =
+      rw (
+        decides-fails (leb 48 c && leb c 57) (between 48 c 57) d,
+        decides-fails (leb 65 c && leb c 70) (between 65 c 70) u,
+        decides-fails (leb 97 c && leb c 102) (between 97 c 102) l,
+      )
+
   digit-below : Digit c → digitValue c < 16
   digit-below (inl h) = omega (arith, decimal-value h)
   digit-below (inr (inl h)) = omega (arith, capital-value h)
   digit-below (inr (inr h)) = omega (arith, small-value h)
+
+  pub digit-decides : Decides (isDigit c) (Digit c)
+  digit-decides =
+      elim (decided _ (decides-or _ _ (between 48 c 57) (decides-or _ _ (between 65 c 70) (between 97 c 102)))) [
+        | inl d ↦ rw (lt-ltb (digitValue c) 16 (digit-below d)) (decides-true d)
+        | inr n ↦ rw (other-value (λ h. n (inl h)) (λ h. n (inr (inl h))) (λ h. n (inr (inr h)))) (decides-false n)
+      ]
 
 -- A pair of digits is 16 times the first, and the second.
 pub bytesOf-pair : (a b : ℕ) (l : List ℕ) → Digit a → Digit b → bytesOf (a ∷ b ∷ l) ≡ (16 * digitValue a + digitValue b) ∷ bytesOf l
@@ -61,14 +83,14 @@ bytesOf-pair a b l h k =
 
 -- ---- written
 
--- The digit of v reads as v. (The entry at v is not looked at.)
-back : ℕ → ℕ → Bool
-back v _ = eqb (digitValue (digitOf v)) v
-
 -- A value's digit has that value.
 pub digitValue-digitOf : (v : ℕ) → v < 16 → digitValue (digitOf v) ≡ v
-unfolding back digitValue digitOf
-digitValue-digitOf v h = eqb-true _ _ (at back (replicate 16 0) refl v h)
+unfolding digitOf
+digitValue-digitOf v h =
+    elim (decLt v 10) [
+      | yes l ↦ rw (lt-ltb v 10 l) (omega (arith, decimal-value (v + 48) (omega arith, omega arith)))
+      | no l ↦ rw (le-ltb v 10 (omega arith)) (omega (arith, capital-value (v + 55) (omega arith, omega arith)))
+    ]
 
 pub isDigit-digitOf : (v : ℕ) → v < 16 → isDigit (digitOf v) ≡ true
 isDigit-digitOf v h = rw (digitValue-digitOf v h, lt-ltb v 16 h)

@@ -2,28 +2,29 @@
 --   bytesOf-at, bytesOf-below: which byte stands at a place, and its range
 --   length-bytesOf: how many bytes there are
 --   bytesOf-drop, bytesOf-take, bytesOf-part: the bytes of what is left of a line, of its start, of a part
---   allDigits-next, allDigits-stop: whether the characters from a place on are digits, by the first of them
+--   allDigits-next: whether the characters from a place on are digits, by the first of them and those after it
 --   line-length, line-even, bytesOf-line: a line is pairs, and has a first byte
 --   line-digits, feed-no-digit: a line is of digits, and a line feed is none
 --   noLine-decides: the test of lines is false exactly of what is no line
 -- Assumes nothing.
 use mathlib.Core.Path.{_≡_, refl}
-use mathlib.Core.Bool.{Bool, true, false, not, _&&_, false≢true, and-eq-true-iff, Bool·not-not}
+use mathlib.Core.Bool.{true, false, not, _&&_, false≢true, and-eq-true-iff, Bool·not-not}
 use mathlib.Core.Logic.{_⊎_, inl, inr}
 use mathlib.Core.List.{List, [], _∷_, List·Memᴰ}
-use Prim.Native.Nat.{ℕ, zero, suc, _+_, _-_, _*_, _/_, _%_, _<_, _≤_}
+use Prim.Native.Nat.{ℕ, zero, suc, _+_, _*_, _/_, _%_, _<_, _≤_}
 use native.Mathlib.Omega.{arith}
 use native.Mathlib.Numerals.{add-one}
-use borrow.Author.Tests.{lt-ltb, le-ltb, eqb-true}
-use lib.Dec.{eqb, leb, ltb}
+use borrow.Author.Tests.{eqb-true}
+use lib.Dec.{eqb}
 use lib.Seq.{drop-cons}
 use lib.ListN.{length, getD, take, drop}
-use Rattle.base.specs.Truths.{pick, Decides}
-use Rattle.base.proofs.Laws.Decides.{decides-true, decides-false, decides-as, decides-leb, decides-eqb, decides-not, decides-and, decides-not-and}
+use Rattle.base.specs.Truths.{Decides}
+use Rattle.base.proofs.Laws.Decides.{decides-as, decides-eqb, decides-not, decides-not-and}
 use Rattle.base.proofs.Laws.Each.{one-fails}
 use Rattle.base.proofs.Laws.Lists.{length-none}
-use Rattle.hex.specs.Digits.{Decimal, Capital, Small, Digit, digitValue, isDigit, byteOf}
+use Rattle.hex.specs.Digits.{Digit, digitValue, isDigit, byteOf}
 use Rattle.hex.specs.Lines.{NoLine, empty, other, odd, allDigits, isLine, bytesOf}
+use Rattle.hex.proofs.Laws.Digits.{digit-decides}
 
 -- One place more is two characters more.
 double-suc : (i : ℕ) → 2 * suc i ≡ suc (suc (2 * i))
@@ -68,13 +69,9 @@ bytesOf-take (a ∷ b ∷ l) (suc i) = rw (double-suc, bytesOf-take l i)
 pub bytesOf-part : (l : List ℕ) (i n : ℕ) → bytesOf (take (2 * n) (drop (2 * i) l)) ≡ take n (drop i (bytesOf l))
 bytesOf-part l i n = rw (bytesOf-take, bytesOf-drop)
 
--- Whether the characters from i on are digits: a digit is passed by, and any other character decides.
-module _ (l : List ℕ) (i : ℕ) (h : i < length l) where
-  pub allDigits-next : digitValue (getD l i 0) < 16 → allDigits (drop i l) ≡ allDigits (drop (i + 1) l)
-  allDigits-next k = rw (add-one i, drop-cons l i 0 h, lt-ltb _ _ k)
-
-  pub allDigits-stop : 16 ≤ digitValue (getD l i 0) → allDigits (drop i l) ≡ false
-  allDigits-stop k = rw (drop-cons l i 0 h, le-ltb _ _ k)
+-- The characters from i on are digits if the first of them is one and those after it are.
+pub allDigits-next : (l : List ℕ) (i : ℕ) → i < length l → allDigits (drop i l) ≡ (isDigit (getD l i 0) && allDigits (drop (i + 1) l))
+allDigits-next l i h = rw (add-one i, drop-cons l i 0 h)
 
 pub line-length : (l : List ℕ) → isLine l ≡ true → 2 ≤ length l
 unfolding isLine
@@ -108,21 +105,6 @@ bytesOf-line (a ∷ []) h = absurd (omega (arith, line-length (a ∷ []) h))
 bytesOf-line (a ∷ b ∷ l) h = refl
 
 -- ---- what is no line
-
-digit-decides : (c : ℕ) → Decides (isDigit c) (Digit c)
-unfolding digitValue
-digit-decides c =
-    go (leb 48 c && leb c 57) (leb 65 c && leb c 70) (leb 97 c && leb c 102) (decides-and _ _ (decides-leb 48 c) (decides-leb c 57))
-    (decides-and _ _ (decides-leb 65 c) (decides-leb c 70))
-    (decides-and _ _ (decides-leb 97 c) (decides-leb c 102))
-  where
-    go : (x y z : Bool) → Decides x (Decimal c) → Decides y (Capital c) → Decides z (Small c)
-        → Decides (ltb (pick x (c - 48) (pick y (c - 55) (pick z (c - 87) 16))) 16) (Digit c)
-    go true y z d e f = let h = d .yes refl in rw (lt-ltb (c - 48) 16 (omega arith)) (decides-true (inl h))
-    go false true z d e f = let h = e .yes refl in rw (lt-ltb (c - 55) 16 (omega arith)) (decides-true (inr (inl h)))
-    go false false true d e f = let h = f .yes refl in rw (lt-ltb (c - 87) 16 (omega arith)) (decides-true (inr (inr h)))
-    go false false false d e f =
-        decides-false (λ s. elim s [ inl h ↦ d .no refl h | inr r ↦ elim r [ inl h ↦ e .no refl h | inr h ↦ f .no refl h ] ])
 
 -- Some character is no digit.
 abbrev Other : List ℕ → Type 0
