@@ -61,22 +61,23 @@ fn non_enforceable(table: &Table, row: &Row) -> bool {
     lacks(row.source) || lacks(row.destination) || !at_least(cap, &row.coefficients)
 }
 
-/// Kind 12: some row rides in row i, and each that does has greater coefficients.
+/// Kind 12: some row rides in row i, and each that does has at least its coefficients.
 fn superfluous(table: &Table, i: usize) -> bool {
-    let own = &table.rows[i];
-    let riders: Vec<&Row> = (0..table.rows.len())
-        .filter(|&j| j != i && rides(table, &table.rows[j], own))
+    let own = &table.rows[i].coefficients;
+    let riders = riders(table, i);
+    !riders.is_empty() && riders.iter().all(|row| at_least(&row.coefficients, own))
+}
+
+/// The rows that ride in row i, in their order.
+pub fn riders(table: &Table, i: usize) -> Vec<&Row> {
+    (0..table.rows.len())
+        .filter(|&j| j != i && rides(table, &table.rows[j], &table.rows[i]))
         .map(|j| &table.rows[j])
-        .collect();
-    !riders.is_empty()
-        && riders.iter().all(|rider| {
-            at_least(&rider.coefficients, &own.coefficients)
-                && rider.coefficients != own.coefficients
-        })
+        .collect()
 }
 
 /// Whether the rider's gateways pass the carrier's source root and later its destination root.
-fn rides(table: &Table, rider: &Row, carrier: &Row) -> bool {
+pub fn rides(table: &Table, rider: &Row, carrier: &Row) -> bool {
     let entry = root(table, carrier.source);
     let exit = root(table, carrier.destination);
     let passes = match rider.gateways.iter().position(|&gateway| gateway == entry) {

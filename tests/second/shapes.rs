@@ -5,7 +5,7 @@ use crate::kinds::exchanged;
 use crate::random::Random;
 use crate::reader::{MOST_FILTERS, MOST_ROWS};
 use crate::relations::root;
-use crate::table::{Filter, Table, FIELDS};
+use crate::table::{Filter, Row, Table, FIELDS};
 
 /// A lawful table.
 pub fn table(random: &mut Random, scale: Scale) -> Table {
@@ -38,17 +38,17 @@ impl Draft<'_> {
 
     /// Adds rows of one of the families.
     fn add_family(&mut self) {
-        match self.random.below(17) {
+        match self.random.below(18) {
             0 => self.add_plain(),
             1..=2 => self.add_crowd(),
             3..=4 => self.add_hidden(),
             5..=6 => self.add_path(),
             7 => self.add_answer(),
-            8 => self.add_rider(),
-            9..=10 => self.add_variant(),
-            11 => self.add_other_technology(),
-            12 => self.add_skewed(),
-            13..=14 => self.add_unlike(),
+            8..=9 => self.add_riders(),
+            10..=11 => self.add_variant(),
+            12 => self.add_other_technology(),
+            13 => self.add_skewed(),
+            14..=15 => self.add_unlike(),
             _ => self.add_kin(),
         }
     }
@@ -157,11 +157,21 @@ impl Draft<'_> {
         self.push(row);
     }
 
-    /// Adds a row whose gateways pass both end roots of an earlier row.
-    fn add_rider(&mut self) {
+    /// Adds one to three rows that ride in an earlier row, of which in half of the cases one is to be weaker in a coefficient.
+    fn add_riders(&mut self) {
         let Some(carrier) = self.earlier() else {
             return self.add_plain();
         };
+        let count = self.random.between(1, 3);
+        let weak = self.random.below(2 * count);
+        for k in 0..count {
+            self.add_rider(&carrier, k == weak);
+        }
+    }
+
+    /// Adds a row whose gateways pass both end roots of the carrier, mostly in order: as strong as it or stronger in one coefficient,
+    /// and weak ones weaker in another.
+    fn add_rider(&mut self, carrier: &Row, weak: bool) {
         let mut row = self.row();
         let mut passed = vec![
             root(&self.table, carrier.source),
@@ -181,9 +191,13 @@ impl Draft<'_> {
             row.selector = self.cut(&carrier.selector, 2)[0];
         }
         row.coefficients = carrier.coefficients;
-        if self.random.chance(80) {
-            let k = self.random.below(3);
+        let k = self.random.below(3);
+        if self.random.chance(50) {
             row.coefficients[k] = row.coefficients[k].saturating_add(1);
+        }
+        if weak {
+            let other = (k + 1) % 3;
+            row.coefficients[other] = row.coefficients[other].saturating_sub(1);
         }
         self.push(row);
     }

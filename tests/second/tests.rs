@@ -5,14 +5,14 @@ use crate::calls::{self, Reading};
 use crate::cases::case;
 use crate::couples::Couple;
 use crate::frames::{lines, text};
-use crate::kinds::list;
+use crate::kinds::{list, riders, rides};
 use crate::library;
 use crate::printed;
 use crate::questions::Questions;
 use crate::random::Random;
 use crate::reader::{decode, read};
-use crate::relations::same_group;
-use crate::table::{Packet, Refusal, Table, FIELDS};
+use crate::relations::{at_least, same_group};
+use crate::table::{Coefficients, Packet, Refusal, Table, FIELDS};
 use std::cmp::Ordering::{self, Equal, Greater, Less};
 use std::collections::BTreeSet;
 use std::path::Path;
@@ -409,6 +409,43 @@ fn seeded_texts_have_every_kind_and_refusal() {
         .all(|length| lengths.contains(length)));
 }
 
+/// How coefficients compare with others; none where each has a greater one.
+fn strength(of: &Coefficients, with: &Coefficients) -> Option<Ordering> {
+    match (at_least(of, with), at_least(with, of)) {
+        (true, true) => Some(Equal),
+        (true, false) => Some(Greater),
+        (false, true) => Some(Less),
+        (false, false) => None,
+    }
+}
+
+#[test]
+fn seeded_tunnels_have_riders_of_every_strength() {
+    let mut ridden = BTreeSet::new();
+    let mut only_by_itself = 0;
+    for number in 0..1000 {
+        let table = read(&case(1, number).text).unwrap_or_default();
+        for (i, row) in table.rows.iter().enumerate() {
+            let riders = riders(&table, i);
+            if riders.is_empty() && rides(&table, row, row) {
+                only_by_itself += 1;
+            }
+            let strengths = riders
+                .iter()
+                .map(|rider| strength(&rider.coefficients, &row.coefficients));
+            ridden.insert(strengths.collect::<Vec<_>>());
+        }
+    }
+    let every = [Some(Less), Some(Equal), Some(Greater), None];
+    for first in every {
+        assert!(ridden.contains(&vec![first]));
+        for second in every {
+            assert!(ridden.contains(&vec![first, second]));
+        }
+    }
+    assert!(only_by_itself > 0);
+}
+
 #[test]
 fn seeded_couples_have_every_length_and_refusal() {
     let mut rooms = BTreeSet::new();
@@ -438,7 +475,7 @@ fn seeded_couples_have_every_length_and_refusal() {
 fn seeded_texts_have_small_letters_in_every_frame() {
     let mut kinds = BTreeSet::new();
     let mut letter_after_f = 0;
-    for number in 0..1000 {
+    for number in 0..5000 {
         let text = case(1, number).text;
         letter_after_f += text.iter().filter(|&&character| character == b'g').count();
         if read(&text).is_ok() {

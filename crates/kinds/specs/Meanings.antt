@@ -1,4 +1,4 @@
--- Document 01, "The twenty kinds": what each kind says of row i, or of rows i and j.
+-- Document 01, "The twenty kinds", and document 02, [4], on kind 12: what each kind says of row i, or of rows i and j.
 -- Assumes nothing.
 use Prim.Native.Nat.{ℕ, _-_, _/_, _<_, _≤_, _%_, _^_}
 use mathlib.Core.Path.{_≡_}
@@ -70,12 +70,11 @@ module _ (t : Table) where
     pub gateways : InOrder (sourceRoot i) (destinationRoot i) (rowAt t j .gateways)
     pub selector : Contains (rowAt t i .selector) (rowAt t j .selector)
 
-  -- "12 superfluous: some row rides in i, and every j that rides has Cj ⪰ Ci and Cj ≠ Ci."
+  -- "12 superfluous: some row rides in i", which document 02, [4], keeps, "and every riding row j needs only Cj ⪰ Ci."
   pub record Superfluous (i : ℕ) : Type 0 where
     pub rider : ℕ
     pub rides : Rides rider i
-    pub stronger : (j : ℕ) → Rides j i → AtLeast (rowAt t j .coefficients) (rowAt t i .coefficients)
-    pub different : (j : ℕ) → Rides j i → rowAt t j .coefficients ≡ rowAt t i .coefficients → ⊥
+    pub at-least : (j : ℕ) → Rides j i → AtLeast (rowAt t j .coefficients) (rowAt t i .coefficients)
 
   -- "14 filtered: one filter of a root in G has a box that contains S."
   pub record Filtered (i : ℕ) : Type 0 where

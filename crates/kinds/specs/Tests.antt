@@ -77,9 +77,6 @@ cyclic p = twice (p .from ∷ (p .row .gateways ++ (p .to ∷ [])))
 unfoldable pub rides : Placed → Placed → Bool
 rides q p = inOrder (p .from) (p .to) (q .row .gateways) && contains (p .row .selector) (q .row .selector)
 
-unfoldable pub strictlyStronger : Coefficients → Coefficients → Bool
-strictlyStronger c b = atLeast c b && not (same c b)
-
 unfoldable pub answers : Row → Row → Bool
 answers q r =
     eqb (q .source) (r .destination)
@@ -90,7 +87,7 @@ answers q r =
 unfoldable pub superfluous : (ℕ → Placed) → ℕ → ℕ → Bool
 superfluous at rows i =
     some rows (λ j. not (eqb j i) && rides (at j) (at i))
-    && not (some rows (λ j. (not (eqb j i) && rides (at j) (at i)) && not (strictlyStronger (at j .row .coefficients) (at i .row .coefficients))))
+    && not (some rows (λ j. (not (eqb j i) && rides (at j) (at i)) && not (atLeast (at j .row .coefficients) (at i .row .coefficients))))
 
 -- 16, asymmetric, of row i of so many.
 unfoldable pub asymmetric : (ℕ → Row) → ℕ → ℕ → Bool

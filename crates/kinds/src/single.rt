@@ -5,7 +5,7 @@ ghost use Prim.Native.Nat.{_≤_, _<_};
 ghost use Rattle.policy.specs.Limits.{mostFilters, mostRows, technologies};
 ghost use Rattle.policy.specs.Views.{rowOf, rowIn, coefficientsOf, filterOf, filterIn};
 ghost use Rattle.kinds.specs.Views.{placedOf, placedIn};
-ghost use Rattle.kinds.specs.Tests.{internalLoop, outOfPlace, lacks as lacksTest, nonEnforceable, inadequate as inadequateTest, filters as filtersTest, filtered as filteredTest, layerTwo, cyclic as cyclicTest, rides as ridesTest, strictlyStronger, superfluous as superfluousTest, answers as answersTest, asymmetric as asymmetricTest};
+ghost use Rattle.kinds.specs.Tests.{internalLoop, outOfPlace, lacks as lacksTest, nonEnforceable, inadequate as inadequateTest, filters as filtersTest, filtered as filteredTest, layerTwo, cyclic as cyclicTest, rides as ridesTest, superfluous as superfluousTest, answers as answersTest, asymmetric as asymmetricTest};
 use crate::placed;
 use crate::placed::Placed;
 use crate::placed::Roots;
@@ -76,14 +76,7 @@ fn rides(q: Placed, p: Placed) -> bool
     selector::contains(p.row.selector, s.selector)
 }
 
-// Whether c ⪰ b and c ≠ b.
-fn strictly_stronger(c: Coefficients, b: Coefficients) -> bool
-    ensures { λ r. ⌜ r ≡ strictlyStronger (coefficientsOf c) (coefficientsOf b) ⌝ }
-{
-    coefficients::at_least(c, b) & !coefficients::equals(c, b)
-}
-
-// 12, superfluous: some row rides in row i, and every j that rides has Cj ⪰ Ci and Cj ≠ Ci.
+// 12, superfluous: some row rides in row i, and every j that rides has Cj ⪰ Ci.
 pub fn superfluous<'a>(
     heads: &'a Heads,
     bounds: &'a Bounds,
@@ -100,7 +93,7 @@ pub fn superfluous<'a>(
     while j < rows {
         let q = placed::placed_at(heads, bounds, roots, j);
         let riding = (j != i) & rides(q, p);
-        if riding & !strictly_stronger(q.row.coefficients, p.row.coefficients) {
+        if riding & !coefficients::at_least(q.row.coefficients, p.row.coefficients) {
             return false;
         }
         ridden = ridden | riding;

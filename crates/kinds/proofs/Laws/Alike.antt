@@ -7,11 +7,12 @@ use mathlib.Core.List.{List, [], _∷_, map}
 use lib.Dec.{eqb, ltb}
 use Rattle.policy.specs.Model.{Filter, Row, Selector}
 use Rattle.base.specs.Lists.{among}
+use Rattle.relations.specs.Coefficients.{atLeast}
 use Rattle.relations.specs.Selectors.{inhabited, meet}
 use Rattle.kinds.specs.Views.{Placed}
 use Rattle.base.proofs.Laws.Members.{some-alike}
 use Rattle.base.proofs.Laws.Each.{_▹_}
-use Rattle.kinds.specs.Tests.{internalLoop, outOfPlace, nonEnforceable, inadequate, rides, strictlyStronger, superfluous, filters, filtered, layerTwo, answers, asymmetric, cyclic, goesOn, chains, alternativePath, pairOf}
+use Rattle.kinds.specs.Tests.{internalLoop, outOfPlace, nonEnforceable, inadequate, rides, superfluous, filters, filtered, layerTwo, answers, asymmetric, cyclic, goesOn, chains, alternativePath, pairOf}
 use Rattle.kinds.specs.Seen.{Seen, pairIn}
 use Rattle.kinds.specs.Kinds.{Kind, noKind, alone, paired, kinds, ofOne, rowTests}
 
@@ -22,8 +23,8 @@ module _ (f g : ℕ → Placed) (rows i : ℕ) (hi : i < rows) (h : (j : ℕ) �
       rw (
         some-alike rows (λ j. not (eqb j i) && rides (f j) (f i)) (λ j. not (eqb j i) && rides (g j) (g i)) (λ j k. rw (h j k, h i hi)),
         some-alike rows
-            (λ j. (not (eqb j i) && rides (f j) (f i)) && not (strictlyStronger (f j .row .coefficients) (f i .row .coefficients)))
-            (λ j. (not (eqb j i) && rides (g j) (g i)) && not (strictlyStronger (g j .row .coefficients) (g i .row .coefficients)))
+            (λ j. (not (eqb j i) && rides (f j) (f i)) && not (atLeast (f j .row .coefficients) (f i .row .coefficients)))
+            (λ j. (not (eqb j i) && rides (g j) (g i)) && not (atLeast (g j .row .coefficients) (g i .row .coefficients)))
             (λ j k. rw (h j k, h i hi)),
       )
 

@@ -9,11 +9,11 @@ use Rattle.relations.specs.Selectors.{contains, overlaps, inhabited, meet, exch
 use Rattle.relations.specs.Groups.{sameGroup}
 use Rattle.search.specs.Search.{search, from, tries}
 use Rattle.verdicts.specs.Verdicts.{covers, coverOf, verdictAfter}
-use Rattle.kinds.specs.Tests.{inOrder, twice, lacks, nonEnforceable, rides, strictlyStronger, superfluous, filters, filtered, layerTwo, answers, asymmetric, cyclic, goesOn, chains, alternativePath, encloses, sameTraffic}
+use Rattle.kinds.specs.Tests.{inOrder, twice, lacks, nonEnforceable, rides, superfluous, filters, filtered, layerTwo, answers, asymmetric, cyclic, goesOn, chains, alternativePath, encloses, sameTraffic}
 use Rattle.kinds.specs.Kinds.{anomaly}
 use Rattle.kinds.specs.Entries.{gather, entries}
 use Rattle.kinds.specs.Examples.{Printed}
 
 pub printed : Printed
-unfolding among same upward ancestors rootOf atOrAbove layerOf dominates atLeast contains overlaps inhabited meet exchange sameSelector sameGroup search from tries covers coverOf verdictAfter some inOrder twice lacks nonEnforceable rides strictlyStronger superfluous filters filtered layerTwo answers asymmetric cyclic goesOn chains alternativePath encloses sameTraffic anomaly gather entries
+unfolding among same upward ancestors rootOf atOrAbove layerOf dominates atLeast contains overlaps inhabited meet exchange sameSelector sameGroup search from tries covers coverOf verdictAfter some inOrder twice lacks nonEnforceable rides superfluous filters filtered layerTwo answers asymmetric cyclic goesOn chains alternativePath encloses sameTraffic anomaly gather entries
 printed = refl

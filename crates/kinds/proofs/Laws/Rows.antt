@@ -11,7 +11,7 @@ use lib.ListN.{length, getD}
 use Rattle.policy.specs.Model.{Table, noFilter, entityAt, rowAt}
 use Rattle.policy.specs.Wellformed.{Wellformed}
 use Rattle.base.specs.Truths.{Decides}
-use Rattle.relations.specs.Coefficients.{AtLeast}
+use Rattle.relations.specs.Coefficients.{AtLeast, atLeast}
 use Rattle.relations.specs.Groups.{Dead}
 use Rattle.base.proofs.Laws.Decides.{decides-true, decides-false, decides-as, decides-and, decides-or, decides-not, decides-eqb, decided}
 use Rattle.base.proofs.Laws.Members.{among-decides, same-decides, Some, some-decides}
@@ -22,7 +22,7 @@ use Rattle.verdicts.specs.Verdicts.{verdictOn, isNone}
 use Rattle.verdicts.proofs.Laws.Verdicts.{verdicts}
 use Rattle.kinds.specs.Meanings.{IsRow, sourceRoot, destinationRoot, InternalLoop, OutOfPlace, Lacks, NonEnforceable, Inadequate, Rides, Superfluous, Filtered, LayerTwo, Answers, Asymmetric, Cyclic}
 use Rattle.kinds.specs.Views.{placedAt}
-use Rattle.kinds.specs.Tests.{empty, internalLoop, outOfPlace, lacks, nonEnforceable, inadequate, rides, strictlyStronger, superfluous, filters, filtered, layerTwo, answers, asymmetric, cyclic, dead}
+use Rattle.kinds.specs.Tests.{empty, internalLoop, outOfPlace, lacks, nonEnforceable, inadequate, rides, superfluous, filters, filtered, layerTwo, answers, asymmetric, cyclic, dead}
 use Rattle.kinds.proofs.Laws.Lists.{inOrder-decides, twice-decides}
 use Rattle.kinds.proofs.Laws.Pairs.{selector-ordered}
 
@@ -63,28 +63,23 @@ module _ (t : Table) (w : Wellformed t) where
       (decides-and _ _ (decides-not _ (decides-eqb j i))
       (decides-and _ _ (inOrder-decides _ _ _) (contains-decides _ _ (selector-ordered t w j h))))
 
-  abbrev StrictlyStronger : ℕ → ℕ → Type 0
-  StrictlyStronger j i = AtLeast (rowAt t j .coefficients) (rowAt t i .coefficients) × (rowAt t j .coefficients ≡ rowAt t i .coefficients → ⊥)
-
-  strictlyStronger-decides : (j i : ℕ) → Decides (strictlyStronger (rowAt t j .coefficients) (rowAt t i .coefficients)) (StrictlyStronger j i)
-  unfolding strictlyStronger
-  strictlyStronger-decides j i = decides-and _ _ (atLeast-decides _ _) (decides-not _ (same-decides _ _))
-
   pub superfluous-decides : (i : ℕ) → Decides (superfluous (placedAt t) (length (t .rows)) i) (Superfluous t i)
   unfolding superfluous
   superfluous-decides i =
       decides-as
-      (λ e.
-      record { rider = e .0 .0; rides = e .0 .2; stronger = λ j r. every (e .1) j r .0; different = λ j r. every (e .1) j r .1 })
-      (λ e. ((e .rider, e .rides .row, e .rides), λ s. s .2 .1 (e .stronger (s .0) (s .2 .0), e .different (s .0) (s .2 .0))))
+      (λ e. record { rider = e .0 .0; rides = e .0 .2; at-least = every (e .1) })
+      (λ e. ((e .rider, e .rides .row, e .rides), λ s. s .2 .1 (e .at-least (s .0) (s .2 .0))))
       (decides-and _ _
       (some-decides (length (t .rows)) (λ j. not (eqb j i) && rides (placedAt t j) (placedAt t i)) (λ j h. rides-decides j i h))
       (decides-not _
-      (some-decides (length (t .rows)) (λ j. (not (eqb j i) && rides (placedAt t j) (placedAt t i)) && not (strictlyStronger (rowAt t j .coefficients) (rowAt t i .coefficients)))
-      (λ j h. decides-and _ _ (rides-decides j i h) (decides-not _ (strictlyStronger-decides j i))))))
+      (some-decides (length (t .rows)) (λ j. (not (eqb j i) && rides (placedAt t j) (placedAt t i)) && not (atLeast (rowAt t j .coefficients) (rowAt t i .coefficients)))
+      (λ j h. decides-and _ _ (rides-decides j i h) (decides-not _ (atLeast-decides _ _))))))
     where
-      every : (Some (length (t .rows)) (λ j. Rides t j i × (StrictlyStronger j i → ⊥)) → ⊥) → (j : ℕ) → Rides t j i → StrictlyStronger j i
-      every n j r = elim (decided (strictlyStronger (rowAt t j .coefficients) (rowAt t i .coefficients)) (strictlyStronger-decides j i)) [
+      Weaker : ℕ → Type 0
+      Weaker j = Rides t j i × (AtLeast (rowAt t j .coefficients) (rowAt t i .coefficients) → ⊥)
+
+      every : (Some (length (t .rows)) Weaker → ⊥) → (j : ℕ) → Rides t j i → AtLeast (rowAt t j .coefficients) (rowAt t i .coefficients)
+      every n j r = elim (decided (atLeast (rowAt t j .coefficients) (rowAt t i .coefficients)) (atLeast-decides _ _)) [
         | inl h ↦ h
         | inr s ↦ absurd (n (j, r .row, (r, s)))
       ]

@@ -1,4 +1,4 @@
--- `superfluous` meets its contract: `ridden` says whether a row before j rides in row i, and each that does is strictly stronger. Assumes nothing.
+-- `superfluous` meets its contract: `ridden` says whether a row before j rides in row i, and none that does is weaker in a coefficient. Assumes nothing.
 use borrow.Author.Needs.{needs}
 use native.Mathlib.Omega.{arith}
 use Prim.Native.Nat.{ℕ, _-_, _≤_}
@@ -7,19 +7,20 @@ use mathlib.Core.Bool.{Bool, false, not, _&&_, _||_, and-false, and-true}
 use denote.Ref.{now}
 use lib.Dec.{eqb}
 use Rattle.base.specs.Lists.{some}
-use Rattle.kinds.specs.Tests.{rides, strictlyStronger, superfluous}
+use Rattle.relations.specs.Coefficients.{atLeast}
+use Rattle.kinds.specs.Tests.{rides, superfluous}
 use Rattle.kinds.specs.Views.{Placed, placedOf, placedIn}
 use Rattle.base.proofs.Laws.Members.{some-start, some-more, some-none, some-found}
 use Rattle.kinds.proofs.single.superfluous.Statement.{statement}
 use Rattle.kinds.proofs.single.superfluous.Tie as tie
 
--- whether row j rides in row i, and whether it does so without being strictly stronger
+-- whether row j rides in row i, and whether it does so weaker in a coefficient
 module _ (at : ℕ → Placed) (i j : ℕ) where
   abbrev riding : Bool
   riding = not (eqb j i) && rides (at j) (at i)
 
   abbrev weak : Bool
-  weak = riding && not (strictlyStronger (at j .row .coefficients) (at i .row .coefficients))
+  weak = riding && not (atLeast (at j .row .coefficients) (at i .row .coefficients))
 
 abbrev I : tie.InvT-loop
 I heads bounds roots rows i p ridden₀ j₀ ridden j =
@@ -40,7 +41,7 @@ starts c =
     (search needs, sym (some-start (riding (rowsOf s) (s .args .i))), some-start (weak (rowsOf s) (s .args .i)))
 
 -- the tests that were made are those of rows j and i
-module _ (c : tie.After-strictly-stronger I μ) where
+module _ (c : tie.After-at-least I μ) where
   abbrev asked : tie.Start I μ
   asked = c .before .before .before .before .before .before
 
@@ -53,26 +54,43 @@ module _ (c : tie.After-strictly-stronger I μ) where
   abbrev j : ℕ
   j = loop .loop .j
 
+  -- rows j and i as they were taken out
+  abbrev q : Placed
+  q = placedOf (c .before .before .placed-at2 .result)
+
+  abbrev p : Placed
+  p = placedOf (loop .before .placed-at .result)
+
+  row-j : q ≡ rowsOf asked j
+  row-j = c .before .before .placed-at2 .ensures
+
+  row-i : p ≡ rowsOf asked i
+  row-i = loop .before .placed-at .ensures
+
   rode : riding (rowsOf asked) i j ≡ (not (eqb j i) && c .before .rides .result)
-  rode =
-      ap (λ (t : Bool). not (eqb j i) && t)
-      (sym
-      (c .before .rides .ensures
-      ∙ ap (λ (x : Placed). rides x (placedOf (loop .before .placed-at .result))) (c .before .before .placed-at2 .ensures)
-      ∙ ap (λ (x : Placed). rides (rowsOf asked j) x) (loop .before .placed-at .ensures)))
+  rode = ap (λ (t : Bool). not (eqb j i) && t) (sym (c .before .rides .ensures ∙ (λ x. rides (row-j x) (row-i x))))
 
-  compared : strictlyStronger (rowsOf asked j .row .coefficients) (rowsOf asked i .row .coefficients) ≡ c .strictly-stronger .result
+  compared : atLeast (rowsOf asked j .row .coefficients) (rowsOf asked i .row .coefficients) ≡ c .at-least .result
   compared =
-      sym
-      (c .strictly-stronger .ensures
-      ∙ ap (λ (x : Placed). strictlyStronger (x .row .coefficients) (placedOf (loop .before .placed-at .result) .row .coefficients))
-      (c .before .before .placed-at2 .ensures)
-      ∙ ap (λ (x : Placed). strictlyStronger (rowsOf asked j .row .coefficients) (x .row .coefficients)) (loop .before .placed-at .ensures))
+      let e : c .at-least .result ≡ atLeast (q .row .coefficients) (p .row .coefficients) = c .at-least .ensures in
+      sym (e ∙ (λ x. atLeast (row-j x .row .coefficients) (row-i x .row .coefficients)))
 
-  tested : weak (rowsOf asked) i j ≡ ((not (eqb j i) && c .before .rides .result) && not (c .strictly-stronger .result))
+  tested : weak (rowsOf asked) i j ≡ ((not (eqb j i) && c .before .rides .result) && not (c .at-least .result))
   tested =
-      ap (λ (t : Bool). t && not (strictlyStronger (rowsOf asked j .row .coefficients) (rowsOf asked i .row .coefficients))) rode
+      ap (λ (t : Bool). t && not (atLeast (rowsOf asked j .row .coefficients) (rowsOf asked i .row .coefficients))) rode
       ∙ ap (λ (t : Bool). (not (eqb j i) && c .before .rides .result) && not t) compared
+
+next : tie.Need-loop-again I μ
+next c =
+    let m = c .before in
+    let v = loop m .loop .inv in
+    let h : ((not (eqb (j m) (i m)) && m .before .rides .result) && not (m .at-least .result)) ≡ false = c .if1 .left in (
+      search needs,
+      ap (λ (t : Bool). t || (not (eqb (j m) (i m)) && m .before .rides .result)) (v .1)
+          ∙ ap (λ (t : Bool). some (j m) (riding (rowsOf (asked m)) (i m)) || t) (sym (rode m))
+          ∙ sym (some-more (riding (rowsOf (asked m)) (i m)) (j m)),
+      some-none (weak (rowsOf (asked m)) (i m)) (j m) (v .2) (tested m ∙ h),
+    )
 
 weaker : tie.Need-returns I μ
 unfolding superfluous
@@ -81,17 +99,6 @@ weaker c =
     let n = asked m .args .rows in
     rw (some-found (weak (rowsOf (asked m)) (i m)) n (j m) (m .before .before .before .loop-test .taken) (tested m ∙ c .if1 .taken))
     (sym (and-false (some n (riding (rowsOf (asked m)) (i m)))))
-
-next : tie.Need-loop-again I μ
-next c =
-    let m = c .before in
-    let v = loop m .loop .inv in (
-      search needs,
-      ap (λ (t : Bool). t || (not (eqb (j m) (i m)) && m .before .rides .result)) (v .1)
-          ∙ ap (λ (t : Bool). some (j m) (riding (rowsOf (asked m)) (i m)) || t) (sym (rode m))
-          ∙ sym (some-more (riding (rowsOf (asked m)) (i m)) (j m)),
-      some-none (weak (rowsOf (asked m)) (i m)) (j m) (v .2) (tested m ∙ c .if1 .left),
-    )
 
 end : tie.Need-returns-2 I μ
 unfolding superfluous
