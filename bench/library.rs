@@ -1,7 +1,9 @@
-//! The five calls that are measured, of the static libraries and of the second implementation. Each reads its text.
+//! The six calls that are measured, of the static libraries and of the second implementation. Each reads its text.
 
 use crate::calls::{write, Reading};
 use crate::frames;
+use crate::prefixes::Prefix;
+use crate::sides::Side;
 use crate::table::{Refusal, Table};
 
 extern "C" {
@@ -17,7 +19,18 @@ extern "C" {
         out: *mut u8,
         out_len: usize,
     ) -> u64;
+    fn timed_prefixes(
+        text: *const u8,
+        len: usize,
+        row: usize,
+        side: u8,
+        out: *mut u8,
+        out_len: usize,
+    ) -> u64;
 }
+
+/// The side that the prefixes are asked of.
+const SOURCE: u8 = 0;
 
 /// A buffer of this many bytes holds any list and any struck text.
 pub const OUT_BYTES: usize = 38_400;
@@ -29,14 +42,16 @@ pub enum Call {
     Witness,
     Strike,
     Join,
+    Prefixes,
 }
 
-pub const CALLS: [Call; 5] = [
+pub const CALLS: [Call; 6] = [
     Call::Check,
     Call::List,
     Call::Witness,
     Call::Strike,
     Call::Join,
+    Call::Prefixes,
 ];
 
 /// A text and the number of its rows.
@@ -55,7 +70,8 @@ impl Text {
     }
 
     /// What the static library answers: 0 for a text that Check accepts, List's count, Witness of the last row as 0 or, where it
-    /// is dead, 1, the length of Strike's text, and that of the line of the last row joined with itself.
+    /// is dead, 1, the length of Strike's text, and that of the line of the last row joined with itself, the count of its source's
+    /// prefixes.
     pub fn here(&self, call: Call, out: &mut [u8]) -> u64 {
         let (text, len) = (self.bytes.as_ptr(), self.bytes.len());
         // The slices are not null and have the lengths given.
@@ -68,6 +84,10 @@ impl Text {
                 Call::Join => {
                     let last = self.rows - 1;
                     timed_join(text, len, last, last, out.as_mut_ptr(), out.len())
+                }
+                Call::Prefixes => {
+                    let last = self.rows - 1;
+                    timed_prefixes(text, len, last, SOURCE, out.as_mut_ptr(), out.len())
                 }
             }
         }
@@ -93,6 +113,17 @@ impl Text {
                 let line = reading.join(self.rows - 1, self.rows - 1)?;
                 write(&line, out)?;
                 line.len() as u64
+            }
+            Call::Prefixes => {
+                let source = Side {
+                    row: (self.rows - 1) as u8,
+                    number: SOURCE,
+                    room: 0,
+                };
+                let list = reading.prefixes(&source)?;
+                let bytes: Vec<u8> = list.iter().flat_map(Prefix::bytes).collect();
+                write(&bytes, out)?;
+                list.len() as u64
             }
         })
     }

@@ -30,6 +30,8 @@ mod join;
 mod kinds;
 #[path = "../tests/second/pairs.rs"]
 mod pairs;
+#[path = "../tests/second/prefixes.rs"]
+mod prefixes;
 #[allow(dead_code)]
 #[path = "../tests/second/probes.rs"]
 mod probes;
@@ -42,6 +44,11 @@ mod reader;
 #[allow(dead_code)]
 #[path = "../tests/second/relations.rs"]
 mod relations;
+#[path = "../tests/second/rooms.rs"]
+mod rooms;
+#[allow(dead_code)]
+#[path = "../tests/second/sides.rs"]
+mod sides;
 #[path = "../tests/second/table.rs"]
 mod table;
 
@@ -64,7 +71,7 @@ const SIZES: [usize; 4] = [8, 16, 32, 64];
 struct Measured {
     name: &'static str,
     text: Text,
-    times: [[Duration; 2]; 5],
+    times: [[Duration; 2]; CALLS.len()],
 }
 
 /// What was to be reached and what was, and whether it is enough.
@@ -95,6 +102,7 @@ fn main() -> ExitCode {
         &nested[3],
     ]);
     families.iter().for_each(|family| print_growth(family));
+    prefix_lists();
     let mut targets = searches();
     let list = typical[3].times[Call::List as usize][0];
     targets.push(Target {
@@ -161,6 +169,19 @@ fn print_growth(family: &[Measured]) {
             before = Some(time);
         }
         println!();
+    }
+}
+
+/// The longest list of prefixes and the shortest, of texts that differ in one row's sources alone.
+fn prefix_lists() {
+    println!("\nPrefixes of a text of one row");
+    println!("{:12}{:>12}{:>12}{:>9}", "count", "here", "second", "ratio");
+    for table in [tables::sources(1, 1), tables::sources(1, u32::MAX - 1)] {
+        let measured = measure("sources", &table);
+        let count = measured.text.here(Call::Prefixes, &mut vec![0; OUT_BYTES]);
+        let [here, second] = measured.times[Call::Prefixes as usize];
+        let ratio = ratio(here, second);
+        println!("{count:<12}{:>12}{:>12}{ratio:>9.2}", ms(here), ms(second));
     }
 }
 

@@ -146,3 +146,12 @@ pub fn nested(rows: usize) -> Table {
     }
     table
 }
+
+/// One row with these sources.
+pub fn sources(low: u32, high: u32) -> Table {
+    let mut table = roots(2);
+    let mut selector = FULL;
+    selector[0] = range(low, high);
+    table.rows.push(row(0, 4, selector));
+    table
+}

@@ -1,11 +1,13 @@
-//! The seven calls on a text, with their refusals.
+//! The eight calls on a text, with their refusals.
 
 use crate::dead;
 use crate::frames::row_line;
 use crate::join::joined;
 use crate::kinds::{self, Entry};
+use crate::prefixes::{prefixes, Prefix, ADDRESS_BITS};
 use crate::probes::Probe;
 use crate::reader::{is_entity, read};
+use crate::sides::Side;
 use crate::table::{Packet, Refusal, Table};
 
 /// The refusal of an output shorter than the result.
@@ -20,6 +22,11 @@ const NO_SUCH_ENTITY: Refusal = Refusal {
 /// The refusal of two rows that have no joined one.
 const NOT_ALIKE: Refusal = Refusal {
     number: 11,
+    line: 0,
+};
+/// The refusal of a side that is neither source nor destination.
+const NO_SUCH_SIDE: Refusal = Refusal {
+    number: 12,
     line: 0,
 };
 
@@ -92,6 +99,14 @@ impl<'t> Reading<'t> {
         let table = self.table_with_row(i.max(j))?;
         let row = joined(table, i, j).ok_or(NOT_ALIKE)?;
         Ok(row_line(&row))
+    }
+
+    /// The prefixes of the addresses on a side of a row, ascending.
+    pub fn prefixes(&self, side: &Side) -> Result<Vec<Prefix>, Refusal> {
+        let row = usize::from(side.row);
+        let table = self.table_with_row(row)?;
+        let addresses = side.addresses(&table.rows[row]).ok_or(NO_SUCH_SIDE)?;
+        Ok(prefixes(addresses, ADDRESS_BITS))
     }
 
     /// The table of an accepted text.

@@ -1,6 +1,7 @@
 //! The comparison of the proved programs and library with the second implementation, on seeded texts.
 
 use crate::cases::{case, Case};
+use crate::cover;
 use crate::differences::Difference;
 use crate::letters;
 use crate::library;
@@ -112,6 +113,7 @@ fn compare_batch(programs: &Programs, cases: &[(u64, Case)]) -> Result<(), Diffe
         compare_output(*number, &programs.strike, &case.text, &answers.struck)?;
     }
     check_letters(programs, cases, &answers)?;
+    check_prefixes(cases, &answers)?;
     check_promises(programs, cases, &answers)
 }
 
@@ -196,6 +198,7 @@ fn compare_answers(programs: &Programs, cases: &[(u64, Case)]) -> Result<Vec<Ans
             struck: same("Strike", &second.struck)?,
             winners: same("Winner", &second.winners)?,
             joins: same("Join", &second.joins)?,
+            prefixes: same("Prefixes", &second.prefixes)?,
         });
     }
     if rest.is_empty() {
@@ -233,6 +236,21 @@ fn check_letters(
             number: *number,
             told,
         })?;
+    }
+    Ok(())
+}
+
+/// Holds what is promised of Prefixes against the answers to the accepted texts.
+fn check_prefixes(cases: &[(u64, Case)], answers: &[Answers]) -> Result<(), Difference> {
+    for ((number, case), answers) in cases.iter().zip(answers) {
+        if read(&case.text).is_ok() {
+            cover::check(&case.text, &case.questions.sides, answers).map_err(|told| {
+                Difference {
+                    number: *number,
+                    told,
+                }
+            })?;
+        }
     }
     Ok(())
 }

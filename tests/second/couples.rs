@@ -4,6 +4,7 @@ use crate::frames::digits;
 use crate::random::Random;
 use crate::reader::decode;
 use crate::relations::{above, lineage, root};
+use crate::rooms::room;
 use crate::table::{Row, Table};
 use std::collections::BTreeMap;
 
@@ -11,6 +12,8 @@ use std::collections::BTreeMap;
 const COUPLES: usize = 6;
 /// How many bytes a row's frame has, without gateways.
 const ROW_BYTES: usize = 35;
+/// The longest output that Join gets.
+const MOST_ROOM: usize = 255;
 
 /// The numbers of two rows, and the length of the output that Join gets.
 #[derive(Clone, Copy, Debug, PartialEq, Eq)]
@@ -70,7 +73,7 @@ pub fn couples(random: &mut Random, table: &Table) -> Vec<Couple> {
         let couple = Couple {
             i: i as u8,
             j: j as u8,
-            room: room(random, 2 * (ROW_BYTES + gateways)) as u8,
+            room: room(random, 2 * (ROW_BYTES + gateways), MOST_ROOM) as u8,
         };
         couples.push(couple);
         if random.chance(50) {
@@ -176,18 +179,6 @@ fn kinship(table: &Table, a: u8, b: u8) -> Option<Standing> {
     Some(Standing::Kin {
         at_root: both.count() == 1,
     })
-}
-
-/// A length of the output beside the result's: the same, short by one or more, longer, or 0.
-fn room(random: &mut Random, length: usize) -> usize {
-    match random.below(10) {
-        0..=3 => length,
-        4..=5 => length - 1,
-        6 => random.between(length + 1, length + 8),
-        7 => random.between(length + 1, 255),
-        8 => random.below(length),
-        _ => 0,
-    }
 }
 
 #[cfg(test)]

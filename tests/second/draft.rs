@@ -178,16 +178,23 @@ fn bounds(random: &mut Random, most: u32) -> Vec<u32> {
         return Vec::new();
     }
     let mut values = vec![0, most];
-    for _ in 0..random.between(1, 5) {
-        let value = match random.below(4) {
-            0 => random.pick(&[1, most - 1]),
-            1 => most / 2 + random.below(2) as u32,
-            2 => random.below(16) as u32,
-            _ => random.below(most as usize + 1) as u32,
-        };
-        values.push(value);
+    for _ in 0..random.between(1, 3) {
+        values.extend(match random.below(5) {
+            0 => [1, most - 1],
+            1 => [most / 2, most / 2 + 1],
+            2 => [(); 2].map(|()| random.below(16) as u32),
+            3 => block(random, most),
+            _ => [(); 2].map(|()| random.below(most as usize + 1) as u32),
+        });
     }
     values
+}
+
+/// The first and the last value of a block: those up to `most` that have some first bits in common.
+fn block(random: &mut Random, most: u32) -> [u32; 2] {
+    let first = random.below(most as usize + 1) as u32;
+    let past = most >> random.below(most.count_ones() as usize);
+    [first & !past, first | past]
 }
 
 /// Coefficients of few values, so that equal and unordered ones are frequent.

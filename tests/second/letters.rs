@@ -60,6 +60,7 @@ pub fn check(one: &Answers, other: &Answers) -> Result<(), String> {
         ("Strike", same_but_case(&one.struck, &other.struck)),
         ("Winner", one.winners == other.winners),
         ("Join", one.joins == other.joins),
+        ("Prefixes", one.prefixes == other.prefixes),
     ]
     .into_iter()
     .find(|&(_, same)| !same);
@@ -135,7 +136,7 @@ mod tests {
     fn answers_that_differ_are_found() {
         let right = || answers("text", b"01FF007E\n", &Questions::default());
         assert!(check(&right(), &right()).is_ok());
-        let all_alter: [fn(&mut Answers); 7] = [
+        let all_alter: [fn(&mut Answers); 8] = [
             |answers| answers.check = b"text 010000\n".to_vec(),
             |answers| answers.lines = b"05\n".to_vec(),
             |answers| answers.list.clear(),
@@ -143,6 +144,7 @@ mod tests {
             |answers| answers.struck[1] = b'9',
             |answers| answers.winners = b"00\n".to_vec(),
             |answers| answers.joins = b"!0900 \n".to_vec(),
+            |answers| answers.prefixes = b"!0900 \n".to_vec(),
         ];
         for (place, alter) in all_alter.into_iter().enumerate() {
             let mut wrong = right();

@@ -4,11 +4,13 @@ use crate::calls::{write, Reading};
 use crate::couples::Couple;
 use crate::frames::digits;
 use crate::kinds::Entry;
+use crate::prefixes::{Prefix, PREFIX_BYTES};
 use crate::probes::packet_digits;
 use crate::questions::Questions;
+use crate::sides::Side;
 use crate::table::{Packet, Refusal};
 
-/// What fills the output of Join before the call.
+/// What fills the output of Join and of Prefixes before the call.
 pub const UNTOUCHED: u8 = b'.';
 /// The longest input that `rowlist` and `strike` read.
 pub const MOST_INPUT: usize = 16_384;
@@ -22,6 +24,7 @@ pub struct Answers {
     pub struck: Vec<u8>,
     pub winners: Vec<u8>,
     pub joins: Vec<u8>,
+    pub prefixes: Vec<u8>,
 }
 
 /// What `answers` prints of a text with this name and these questions.
@@ -48,6 +51,11 @@ pub fn answers(name: &str, text: &[u8], questions: &Questions) -> Answers {
             .iter()
             .flat_map(|couple| ended(join(&reading, couple)))
             .collect(),
+        prefixes: questions
+            .sides
+            .iter()
+            .flat_map(|side| ended(prefixes(&reading, side)))
+            .collect(),
     }
 }
 
@@ -62,6 +70,7 @@ impl Answers {
             &self.struck,
             &self.winners,
             &self.joins,
+            &self.prefixes,
         ]
         .concat()
     }
@@ -115,13 +124,28 @@ fn winner(winner: Result<Option<usize>, Refusal>) -> Vec<u8> {
 
 /// The digits of the joined line's length or the refusal, and all of the output after the call.
 fn join(reading: &Reading, couple: &Couple) -> Vec<u8> {
-    let mut output = vec![UNTOUCHED; usize::from(couple.room)];
     let line = reading.join(usize::from(couple.i), usize::from(couple.j));
-    let answer = line.and_then(|line| {
-        write(&line, &mut output)?;
-        Ok(digits(&[line.len() as u8]))
+    let [answer, output] = written(line, 1, usize::from(couple.room));
+    [&answer[..], b" ", &output].concat()
+}
+
+/// The digits of the number of prefixes or the refusal, and those of all of the output after the call.
+fn prefixes(reading: &Reading, side: &Side) -> Vec<u8> {
+    let bytes = |list: Vec<Prefix>| list.iter().flat_map(Prefix::bytes).collect();
+    let list = reading.prefixes(side).map(bytes);
+    let [answer, output] = written(list, PREFIX_BYTES, usize::from(side.room));
+    [&answer[..], b" ", &digits(&output)].concat()
+}
+
+/// What a call answers that writes this result, and its output of the length `room` after the call. The answer is the number of
+/// the result's parts of so many bytes, or the refusal.
+fn written(result: Result<Vec<u8>, Refusal>, part: usize, room: usize) -> [Vec<u8>; 2] {
+    let mut output = vec![UNTOUCHED; room];
+    let answer = result.and_then(|bytes| {
+        write(&bytes, &mut output)?;
+        Ok(digits(&[(bytes.len() / part) as u8]))
     });
-    [&answer.unwrap_or_else(refused)[..], b" ", &output].concat()
+    [answer.unwrap_or_else(refused), output]
 }
 
 /// `!` and two digits each of number and line.

@@ -2,7 +2,7 @@
 //!
 //! Nothing of the second implementation's methods is used: a text is taken apart here, and a group's first matching row wins.
 
-use crate::printed::Answers;
+use crate::printed::{Answers, UNTOUCHED};
 use crate::probes::Probe;
 use crate::table::{Coefficients, Packet, FIELDS, WIDTHS};
 
@@ -290,6 +290,33 @@ fn counts(check: &[u8]) -> Vec<u8> {
 /// A line of what was printed, without line feed.
 pub fn nth_line(printed: &[u8], line: usize) -> &[u8] {
     printed.split(|&c| c == b'\n').nth(line).unwrap_or_default()
+}
+
+/// The answer that a line begins with, and what it says of the output after the call.
+pub fn answer_and_output(line: &[u8]) -> [&[u8]; 2] {
+    let mut words = line.splitn(2, |&c| c == b' ');
+    [(); 2].map(|()| words.next().unwrap_or_default())
+}
+
+/// Checks the answer, and that past so many bytes the output is untouched. Gives these bytes.
+pub fn check_output<'o>(
+    answer: &[u8],
+    expected: &[u8],
+    output: &'o [u8],
+    length: usize,
+) -> Result<&'o [u8], String> {
+    ensure(answer == expected, || {
+        format!(
+            "answers {} and not {}",
+            answer.escape_ascii(),
+            expected.escape_ascii()
+        )
+    })?;
+    let (result, past) = output.split_at(length);
+    ensure(past.iter().all(|&byte| byte == UNTOUCHED), || {
+        "writes past its result, or beside a refusal".into()
+    })?;
+    Ok(result)
 }
 
 #[cfg(test)]

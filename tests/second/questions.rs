@@ -1,9 +1,10 @@
-//! What is asked of a text: probes for Winner, and couples of rows for Join.
+//! What is asked of a text: probes for Winner, couples of rows for Join, and sides of rows for Prefixes.
 
 use crate::couples::{couples, Couple};
 use crate::frames::text;
 use crate::probes::{probes, Probe};
 use crate::random::Random;
+use crate::sides::{sides, Side};
 use crate::table::Table;
 
 /// The questions that one file holds.
@@ -11,6 +12,7 @@ use crate::table::Table;
 pub struct Questions {
     pub probes: Vec<Probe>,
     pub couples: Vec<Couple>,
+    pub sides: Vec<Side>,
 }
 
 impl Questions {
@@ -19,19 +21,23 @@ impl Questions {
         let mut questions = Questions::default();
         for line in file.split_inclusive(|&c| c == b'\n') {
             let line = line.strip_suffix(b"\n")?;
-            match Couple::read(line) {
-                Some(couple) => questions.couples.push(couple),
-                None => questions.probes.push(Probe::read(line)?),
+            if let Some(couple) = Couple::read(line) {
+                questions.couples.push(couple);
+            } else if let Some(side) = Side::read(line) {
+                questions.sides.push(side);
+            } else {
+                questions.probes.push(Probe::read(line)?);
             }
         }
         Some(questions)
     }
 
-    /// The lines of a file of these questions, the couples first.
+    /// The lines of a file of these questions, the couples first, then the sides.
     pub fn lines(&self) -> Vec<u8> {
         let couples = self.couples.iter().map(Couple::digits);
+        let sides = self.sides.iter().map(Side::digits);
         let probes = self.probes.iter().map(Probe::digits);
-        text(&couples.chain(probes).collect::<Vec<_>>())
+        text(&couples.chain(sides).chain(probes).collect::<Vec<_>>())
     }
 }
 
@@ -40,6 +46,7 @@ pub fn questions(random: &mut Random, table: &Table) -> Questions {
     Questions {
         probes: probes(random, table),
         couples: couples(random, table),
+        sides: sides(random, table),
     }
 }
 
@@ -50,15 +57,24 @@ mod tests {
     #[test]
     fn lines_are_read_in_any_order() {
         let file =
-            b"00010300000000000000000000000000\n000146\n02000103000000000000000000000000\n3fFF00\n";
+            b"00010300000000000000000000000000\n3F010136\n000146\n02000103000000000000000000000000\n\
+            3fFF00\nfFfF0000\n";
         let questions = Questions::read(file).unwrap();
         assert_eq!(questions.probes.len(), 2);
         assert_eq!(
             questions.lines(),
-            b"000146\n3FFF00\n00010300000000000000000000000000\n02000103000000000000000000000000\n"
+            b"000146\n3FFF00\n3F010136\nFFFF0000\n\
+            00010300000000000000000000000000\n02000103000000000000000000000000\n"
         );
         assert_eq!(Questions::read(&questions.lines()), Some(questions));
-        for wrong in [&b"000146"[..], b"0001\n", b"\n", b"00014g\n"] {
+        for wrong in [
+            &b"000146"[..],
+            b"0001\n",
+            b"\n",
+            b"00014g\n",
+            b"00000005",
+            b"00000201\n",
+        ] {
             assert_eq!(Questions::read(wrong), None);
         }
     }

@@ -1,5 +1,5 @@
-//! Document 01's table T and its edges, the examples of the kinds, Join's edges, and demand 3 on seeded tables; and all 256 bytes
-//! as digits, read by the static library.
+//! Document 01's table T and its edges, the examples of the kinds, the edges of Join and Prefixes, and demand 3 on seeded tables;
+//! and all 256 bytes as digits, read by the static library.
 
 use crate::calls::{self, Reading};
 use crate::cases::case;
@@ -7,11 +7,13 @@ use crate::couples::Couple;
 use crate::frames::{lines, text};
 use crate::kinds::{list, riders, rides};
 use crate::library;
+use crate::prefixes::PREFIX_BYTES;
 use crate::printed;
 use crate::questions::Questions;
 use crate::random::Random;
 use crate::reader::{decode, read};
 use crate::relations::{at_least, same_group};
+use crate::sides::Side;
 use crate::table::{Coefficients, Packet, Refusal, Table, FIELDS};
 use std::cmp::Ordering::{self, Equal, Greater, Less};
 use std::collections::BTreeSet;
@@ -78,7 +80,7 @@ fn answers_on_t() {
     let whole = text(&table_t());
     let questions = Questions::read(
         b"02010300000000000000000000800000\n00000300000000000000000000000000\n000148\n\
-        03040300000000000000000000000000\n00010400000000000000000000000000\n",
+        03040300000000000000000000000000\n00010400000000000000000000000000\n02010006\n",
     );
     let answers = printed::answers("t", &whole, &questions.unwrap());
     assert_eq!(answers.check, b"t 040003\n");
@@ -97,15 +99,17 @@ fn answers_on_t() {
         answers.joins,
         format!("46 {ROW_START}0000FFFF00FF00..\n").into_bytes()
     );
+    assert_eq!(answers.prefixes, b"01 00000000002E\n");
 }
 
 #[test]
 fn answers_on_a_refused_text() {
-    let questions = Questions::read(b"FFFFFF00000000000000000000000000\nFFFF03\n000000\n");
+    let questions =
+        Questions::read(b"FFFF0003\nFFFFFF00000000000000000000000000\nFFFF03\n00000000\n000000\n");
     let printed = printed::answers("empty", b"", &questions.unwrap()).all();
     assert_eq!(
         printed,
-        b"empty !0301\n\n!0301\n!0301\n!0301\n!0301\n!0301 ...\n!0301 \n"
+        b"empty !0301\n\n!0301\n!0301\n!0301\n!0301\n!0301 ...\n!0301 \n!0301 2E2E2E\n!0301 \n"
     );
 }
 
@@ -242,8 +246,13 @@ fn join_in(text: &[u8], i: u8, j: u8, room: u8) -> String {
         couples: vec![Couple { i, j, room }],
         ..Questions::default()
     };
-    let joins = printed::answers("text", text, &questions).joins;
-    String::from_utf8(joins.strip_suffix(b"\n").unwrap().to_vec()).unwrap()
+    only_line(printed::answers("text", text, &questions).joins)
+}
+
+/// The one line of what was printed, without line feed.
+fn only_line(printed: Vec<u8>) -> String {
+    let printed = String::from_utf8(printed).unwrap();
+    printed.strip_suffix('\n').unwrap().to_string()
 }
 
 /// Checks the joined line of the rows in both orders, and what each gives with itself.
@@ -371,6 +380,82 @@ fn refusals_of_join_by_row_numbers() {
     assert_eq!(join_in(&whole[1..], 3, 0, 1), "!0101 .");
 }
 
+/// What `answers` prints of Prefixes in the text.
+fn prefixes_in(text: &[u8], row: u8, number: u8, room: u16) -> String {
+    let questions = Questions {
+        sides: vec![Side { row, number, room }],
+        ..Questions::default()
+    };
+    only_line(printed::answers("text", text, &questions).prefixes)
+}
+
+/// Checks Prefixes' answers for T with these addresses in row 2, and outputs that fit, are short or longer.
+fn check_prefixes(addresses: &str, of_source: &str, of_destination: &str) {
+    let row = format!("0500010303030303{addresses}0000FFFF0000FFFF00FF00");
+    let text = with_line(14, &row);
+    for (number, list) in [(0, of_source), (1, of_destination)] {
+        let length = list.len() as u16 / 2;
+        let count = usize::from(length) / PREFIX_BYTES;
+        for longer in [0, 1, 5, 512 - length] {
+            let rest = "2E".repeat(usize::from(longer));
+            let answer = prefixes_in(&text, 2, number, length + longer);
+            assert_eq!(answer, format!("{count:02X} {list}{rest}"));
+        }
+        for room in [0, 4, length - 5, length - 1] {
+            let rest = "2E".repeat(usize::from(room));
+            let answer = prefixes_in(&text, 2, number, room);
+            assert_eq!(answer, format!("!0800 {rest}"));
+        }
+    }
+}
+
+#[test]
+fn prefixes_of_both_sides() {
+    check_prefixes(
+        "0A01000A0A01000A00000000FFFFFFFF",
+        "0A01000A20",
+        "0000000000",
+    );
+    check_prefixes(
+        "0A01000A0A01001D7FFFFFFF80000000",
+        "0A01000A1F0A01000C1E0A0100101D0A0100181E0A01001C1F",
+        "7FFFFFFF208000000020",
+    );
+    let upward = (0..31).map(|k| (1 << k, 32 - k));
+    let downward = (2..=32).map(|k| (!(u32::MAX >> (k - 1)), k));
+    let most: String = upward
+        .chain(downward)
+        .map(|(address, length)| format!("{address:08X}{length:02X}"))
+        .collect();
+    assert_eq!(most.len(), 2 * 310);
+    check_prefixes("000000000000000000000001FFFFFFFE", "0000000020", &most);
+}
+
+#[test]
+fn refusals_of_prefixes_in_their_order() {
+    let whole = text(&table_t());
+    for (room, untouched) in [(0, ""), (4, "2E2E2E2E"), (6, "2E2E2E2E2E2E")] {
+        for number in [0, 1, 2, 255] {
+            for row in [0, 3, 255] {
+                let answer = prefixes_in(&whole[1..], row, number, room);
+                assert_eq!(answer, format!("!0101 {untouched}"));
+            }
+            for row in [3, 64, 255] {
+                let answer = prefixes_in(&whole, row, number, room);
+                assert_eq!(answer, format!("!0900 {untouched}"));
+            }
+        }
+        for number in [2, 3, 128, 255] {
+            let answer = prefixes_in(&whole, 2, number, room);
+            assert_eq!(answer, format!("!0C00 {untouched}"));
+        }
+    }
+    let mut rows = table_t();
+    rows.resize(11 + 64, rows[13].clone());
+    assert_eq!(prefixes_in(&text(&rows), 63, 1, 5), "01 0000000000");
+    assert_eq!(prefixes_in(&text(&rows), 64, 1, 5), "!0900 2E2E2E2E2E");
+}
+
 #[test]
 fn executed_examples() {
     let directory = Path::new("crates/answers");
@@ -392,7 +477,7 @@ fn seeded_texts_have_every_kind_and_refusal() {
     let mut kinds = BTreeSet::new();
     let mut refusals = BTreeSet::new();
     let mut lengths = BTreeSet::new();
-    for number in 0..1000 {
+    for number in 0..2000 {
         let text = case(1, number).text;
         lengths.insert(text.len());
         match read(&text) {
@@ -469,6 +554,48 @@ fn seeded_couples_have_every_length_and_refusal() {
         .collect();
     assert_eq!(rooms, every);
     assert_eq!(refusals, (1..=7).chain([9, 11]).collect());
+}
+
+#[test]
+fn seeded_sides_have_every_room_and_refusal() {
+    let mut empty = BTreeSet::new();
+    let mut spare = BTreeSet::new();
+    let mut refusals = BTreeSet::new();
+    let mut no_rows = BTreeSet::new();
+    for number in 0..1000 {
+        let case = case(1, number);
+        let reading = Reading::of(&case.text);
+        let rows = reading.check().map_or(0, |counts| counts[2]);
+        for side in &case.questions.sides {
+            match reading.prefixes(side) {
+                Ok(list) => {
+                    let length = (PREFIX_BYTES * list.len()) as i32;
+                    empty.extend((side.room == 0).then_some(side.number));
+                    spare.insert((side.number, i32::from(side.room) - length));
+                }
+                Err(refusal) => {
+                    let short = usize::from(side.room) < PREFIX_BYTES;
+                    refusals.insert((refusal.number, side.number > 1, short));
+                    if refusal.number == 9 {
+                        no_rows.insert((side.row, usize::from(side.row) == rows));
+                    }
+                }
+            }
+        }
+    }
+    for number in [0, 1] {
+        assert!(empty.contains(&number));
+        assert!([-1, 0, 1].iter().all(|&k| spare.contains(&(number, k))));
+        assert!(spare.iter().any(|&(of, k)| of == number && k > 100));
+    }
+    let numbers: BTreeSet<usize> = refusals.iter().map(|&(number, ..)| number).collect();
+    assert_eq!(numbers, (1..=7).chain([9, 12]).collect());
+    for short in [false, true] {
+        assert!(refusals.contains(&(9, false, short)) && refusals.contains(&(9, true, short)));
+        assert!(refusals.contains(&(12, true, short)));
+    }
+    assert!(no_rows.contains(&(64, false)) && no_rows.contains(&(255, false)));
+    assert!(no_rows.iter().any(|&(_, past_the_last)| past_the_last));
 }
 
 #[test]

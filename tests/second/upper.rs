@@ -5,7 +5,10 @@
 
 use crate::couples::Couple;
 use crate::printed::{Answers, UNTOUCHED};
-use crate::promises::{bytes, ensure, in_box, nth_line, packets, policy, row, upward, Policy, Row};
+use crate::promises::{
+    answer_and_output, bytes, check_output, ensure, in_box, nth_line, packets, policy, row, upward,
+    Policy, Row,
+};
 use crate::table::{Packet, FIELDS};
 
 /// The kind of a row's frame.
@@ -58,8 +61,7 @@ fn check_answer<'p>(
     couple: &Couple,
     printed: &'p [u8],
 ) -> Result<Option<&'p [u8]>, String> {
-    let mut words = printed.splitn(2, |&c| c == b' ');
-    let [answer, output] = [(); 2].map(|()| words.next().unwrap_or_default());
+    let [answer, output] = answer_and_output(printed);
     ensure(output.len() == usize::from(couple.room), || {
         "leaves another number of bytes than it got".into()
     })?;
@@ -71,17 +73,7 @@ fn check_answer<'p>(
         },
         _ => (b"!0900".to_vec(), 0),
     };
-    ensure(answer == expected, || {
-        format!(
-            "answers {} and not {}",
-            answer.escape_ascii(),
-            expected.escape_ascii()
-        )
-    })?;
-    let (line, past) = output.split_at(length);
-    ensure(past.iter().all(|&byte| byte == UNTOUCHED), || {
-        "writes past its result, or beside a refusal".into()
-    })?;
+    let line = check_output(answer, &expected, output, length)?;
     Ok(Some(line).filter(|line| !line.is_empty()))
 }
 

@@ -1,4 +1,4 @@
--- Document 01, "The six calls", and document 02, [2]: the answers of the calls, and their outputs, for every input. Each is a call on what reading the
+-- Document 01, "The six calls", and document 02, [2] and [5]: the answers of the calls, and their outputs, for every input. Each is a call on what reading the
 -- text gives: the text's refusal, else that of the first condition that is broken, else a value. "The first faulty line counts ..; then 9, 10, 8."
 -- Assumes nothing.
 use Prim.Native.Nat.{ℕ, _+_, _*_}
@@ -14,7 +14,10 @@ use Rattle.relations.specs.Groups.{winner}
 use Rattle.relations.specs.declared.group.Outcome.{Outcome}
 use Rattle.relations.specs.declared.group.Outcome.the-variants.{Won, Nobody}
 use Rattle.joining.specs.Joining.{joinable, joined}
-use Rattle.frames.specs.Refusals.{shortOutput, noSuchRow, noSuchEntity, notJoinable}
+use Rattle.prefixes.specs.Prefixes.{Prefix, prefixes}
+use Rattle.prefixes.specs.Bytes.{prefixBytes}
+use Rattle.prefixes.specs.Sides.{isSide, sideOf}
+use Rattle.frames.specs.Refusals.{shortOutput, noSuchRow, noSuchEntity, notJoinable, noSuchSide}
 use Rattle.frames.specs.Kinds.{ofRow, describe}
 use Rattle.frames.specs.Rows.{lineOfRow}
 use Rattle.reader.specs.Lines.{linesOf}
@@ -38,6 +41,10 @@ hasEntity e t = or-else (ltb e (length (t .entities))) noSuchEntity
 -- Document 02, [2]: "11 when holder, technology, G or either end's root differ"
 abbrev pub canJoin : ℕ → ℕ → Table → Check
 canJoin i j t = or-else (joinable (parentOf t) (rowAt t i) (rowAt t j)) notJoinable
+
+-- Document 02, [5]: "12 when the side is above 1"
+abbrev pub hasSide : ℕ → Check
+hasSide side = or-else (isSide side) noSuchSide
 
 -- "output shorter than the result"
 abbrev pub hasRoom : List ℕ → List ℕ → Check
@@ -136,6 +143,28 @@ joinOf text i j out = told length (writing (joinConditions i j) (λ l. l) (joine
 
 unfoldable pub joinWritten : List ℕ → ℕ → ℕ → List ℕ → List ℕ
 joinWritten text i j out = wrote (λ l. l) (writing (joinConditions i j) (λ l. l) (joinedLine i j) out (parse text)) out
+
+-- ---- Prefixes
+
+-- "four address bytes"
+abbrev pub addressBytes : ℕ
+addressBytes = 4
+
+-- "For a row and a side .., .. the range's prefixes"
+abbrev pub rowPrefixes : ℕ → ℕ → Table → List Prefix
+rowPrefixes k side t = prefixes (8 * addressBytes) (sideOf side (rowAt t k .selector))
+
+-- "12 .., after 9 and before 8"
+abbrev pub prefixConditions : ℕ → ℕ → Table → List Check
+prefixConditions k side t = hasRow k t ∷ hasSide side ∷ []
+
+-- "write the range's prefixes .., with the count returned"
+unfoldable pub prefixesOf : List ℕ → ℕ → ℕ → List ℕ → Answer ℕ
+prefixesOf text k side out = told length (writing (prefixConditions k side) (prefixBytes addressBytes) (rowPrefixes k side) out (parse text))
+
+unfoldable pub prefixesWritten : List ℕ → ℕ → ℕ → List ℕ → List ℕ
+prefixesWritten text k side out =
+    wrote (prefixBytes addressBytes) (writing (prefixConditions k side) (prefixBytes addressBytes) (rowPrefixes k side) out (parse text)) out
 
 -- ---- List for C
 

@@ -4,4 +4,5 @@ pub mod Views
 pub mod RelationPromises
 pub mod Promises
 pub mod JoinPromises
+pub mod PrefixPromises
 pub mod Examples

@@ -3,7 +3,7 @@
 use Prim.Native.Nat.{ℕ}
 use Rattle.base.specs.Answers.{Answer, returned, refusedBy}
 use Rattle.base.specs.declared.Written.{Written}
-use Rattle.base.specs.declared.Written.the-variants.{Length, Short}
+use Rattle.base.specs.declared.Written.the-variants.{Count as Whole, Short}
 use Rattle.policy.specs.Views.{packetOf}
 use Rattle.frames.specs.Refusals.{shortOutput}
 use Rattle.search.specs.Search.{SearchResult}
@@ -14,10 +14,8 @@ use Rattle.analyser.specs.declared.Witness.{Witness}
 use Rattle.analyser.specs.declared.Witness.the-variants.{Dead, Packet, Refused as WitnessRefused}
 use Rattle.analyser.specs.declared.Winner.{Winner}
 use Rattle.analyser.specs.declared.Winner.the-variants.{Row, Nobody, Refused as WinnerRefused}
-use Rattle.analyser.specs.declared.Listed.{Listed}
-use Rattle.analyser.specs.declared.Listed.the-variants.{Count, Refused as ListRefused}
-use Rattle.analyser.specs.declared.LinesWritten.{LinesWritten}
-use Rattle.analyser.specs.declared.LinesWritten.the-variants.{Length as LinesLength, Refused as LinesRefused}
+use Rattle.analyser.specs.declared.Counted.{Counted}
+use Rattle.analyser.specs.declared.Counted.the-variants.{Count, Refused as CountRefused}
 
 abbrev pub checkAnswer : Checked → Answer TableCounts
 checkAnswer (Counts entities filters rows) = returned (record { entities = entities; filters = filters; rows = rows })
@@ -33,15 +31,11 @@ winnerAnswer (Row i) = returned (winningRow i)
 winnerAnswer Nobody = returned nobodyWins
 winnerAnswer (WinnerRefused number line) = refusedBy number line
 
-abbrev pub listAnswer : Listed → Answer ℕ
-listAnswer (Count n) = returned n
-listAnswer (ListRefused number line) = refusedBy number line
+abbrev pub countAnswer : Counted → Answer ℕ
+countAnswer (Count n) = returned n
+countAnswer (CountRefused number line) = refusedBy number line
 
-abbrev pub linesAnswer : LinesWritten → Answer ℕ
-linesAnswer (LinesLength n) = returned n
-linesAnswer (LinesRefused number line) = refusedBy number line
-
--- What is answered of a result, once all other conditions are kept: the length, or that the output is shorter.
+-- What is answered of a result, once all other conditions are kept: its length or count, or that the output is shorter.
 abbrev pub roomAnswer : Written → Answer ℕ
-roomAnswer (Length n) = returned n
+roomAnswer (Whole n) = returned n
 roomAnswer Short = refusedBy shortOutput 0

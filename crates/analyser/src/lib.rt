@@ -1,16 +1,15 @@
 // The analyser's calls. Each takes the text of a table, and leaves it unchanged. A text that is refused gives its own refusal; else the
-// conditions that a call asks follow in the documents' order: 9, 10, 11, 8.
+// conditions that a call asks follow in the documents' order: 9, 10, 11, 12, 8.
 
 ghost use mathlib.Core.Path.{_≡_};
 ghost use Rattle.base.specs.Answers.{refusedBy};
 ghost use Rattle.policy.specs.Views.{packetOf};
-ghost use Rattle.analyser.specs.Calls.{checkOf, linePart, witnessOf, winnerOf, listOf, listWritten, packed, strikeOf, strikeWritten, joinOf, joinWritten};
-ghost use Rattle.analyser.specs.Views.{checkAnswer, witnessAnswer, winnerAnswer, listAnswer, linesAnswer, roomAnswer};
+ghost use Rattle.analyser.specs.Calls.{checkOf, linePart, witnessOf, winnerOf, listOf, listWritten, packed, strikeOf, strikeWritten, joinOf, joinWritten, prefixesOf, prefixesWritten};
+ghost use Rattle.analyser.specs.Views.{checkAnswer, witnessAnswer, winnerAnswer, countAnswer, roomAnswer};
 use base::Written;
 use frames::refusals;
 use frames::row;
 use frames::widths::ADDRESS;
-use listing::Tally;
 use policy::selector::Packet;
 use policy::table;
 use relations::group;
@@ -38,15 +37,9 @@ pub enum Witness {
     Refused { number: u8, line: u8 },
 }
 
-// What List answers: how many entries there are, or a refusal.
-pub enum Listed {
+// What a call that writes answers: how many it wrote, things of a list (List, Prefixes) or bytes of lines (Strike, Join), or a refusal.
+pub enum Counted {
     Count(usize),
-    Refused { number: u8, line: u8 },
-}
-
-// What a call that writes lines answers, Strike or Join: the length of what it writes, or a refusal.
-pub enum LinesWritten {
-    Length(usize),
     Refused { number: u8, line: u8 },
 }
 
@@ -113,26 +106,33 @@ pub fn witness_of(text: &[u8], k: usize) -> Witness
     }
 }
 
-// List: writes the entries of the table's anomalies into out from its start, three bytes each in ascending order: first row, kind, second
-// number. Returns their count. The rest of out is unchanged, and all of it where there is a refusal.
-pub fn list(text: &[u8], out: &mut [u8]) -> Listed
-    ensures answers { λ r. ⌜ listAnswer r ≡ listOf (now (text .entry)) (now (out .entry)) ⌝ }
-    ensures writes { λ _. ⌜ now (out .exit) ≡ listWritten (now (text .entry)) (now (out .entry)) ⌝ }
+// What is answered of a result that is written where there is room: how many it is, or that the output is shorter.
+fn count_written(w: Written) -> Counted
+    ensures { λ r. ⌜ countAnswer r ≡ roomAnswer w ⌝ }
 {
-    let r = reader::read(text);
-    if r.number != 0 {
-        return Listed::Refused {
-            number: r.number,
-            line: r.line,
-        };
-    }
-    match listing::list(r.table, out) {
-        Tally::Count(n) => Listed::Count(n),
-        Tally::Short => Listed::Refused {
+    match w {
+        Written::Count(n) => Counted::Count(n),
+        Written::Short => Counted::Refused {
             number: refusals::SHORT_OUTPUT,
             line: 0,
         },
     }
+}
+
+// List: writes the entries of the table's anomalies into out from its start, three bytes each in ascending order: first row, kind, second
+// number. Returns their count. The rest of out is unchanged, and all of it where there is a refusal.
+pub fn list(text: &[u8], out: &mut [u8]) -> Counted
+    ensures answers { λ r. ⌜ countAnswer r ≡ listOf (now (text .entry)) (now (out .entry)) ⌝ }
+    ensures writes { λ _. ⌜ now (out .exit) ≡ listWritten (now (text .entry)) (now (out .entry)) ⌝ }
+{
+    let r = reader::read(text);
+    if r.number != 0 {
+        return Counted::Refused {
+            number: r.number,
+            line: r.line,
+        };
+    }
+    count_written(listing::list(r.table, out))
 }
 
 // What a number in return is multiplied by, where it is a refusal's.
@@ -145,68 +145,62 @@ pub fn packed_refusal(number: u8, line: u8) -> u64
     REFUSAL_WEIGHT * number as u64 + line as u64
 }
 
+// The answer of a call that writes, as one number: the count, or the refusal.
+pub fn packed_count(answer: Counted) -> u64
+    ensures { λ n. ⌜ n ≡ packed (countAnswer answer) ⌝ }
+{
+    match answer {
+        Counted::Count(n) => n as u64,
+        Counted::Refused { number, line } => packed_refusal(number, line),
+    }
+}
+
 // List for C, which writes what `list` writes: the count, or the refusal as one number. The layout of the arguments is in include/lainukesk.h.
 #[no_mangle]
 pub extern "C" fn lainukesk_list(text: &[u8], out: &mut [u8]) -> u64
     ensures answers { λ n. ⌜ n ≡ packed (listOf (now (text .entry)) (now (out .entry))) ⌝ }
     ensures writes { λ _. ⌜ now (out .exit) ≡ listWritten (now (text .entry)) (now (out .entry)) ⌝ }
 {
-    match list(text, out) {
-        Listed::Count(n) => n as u64,
-        Listed::Refused { number, line } => packed_refusal(number, line),
-    }
-}
-
-// What is answered of lines that were written where there is room: their length, or that the output is shorter.
-fn lines_written(w: Written) -> LinesWritten
-    ensures { λ r. ⌜ linesAnswer r ≡ roomAnswer w ⌝ }
-{
-    match w {
-        Written::Length(n) => LinesWritten::Length(n),
-        Written::Short => LinesWritten::Refused {
-            number: refusals::SHORT_OUTPUT,
-            line: 0,
-        },
-    }
+    packed_count(list(text, out))
 }
 
 // Strike: writes the text without its dead rows' lines into out from its start. Returns its length. The rest of out is unchanged, and all of
 // it where there is a refusal.
-pub fn strike(text: &[u8], out: &mut [u8]) -> LinesWritten
-    ensures answers { λ r. ⌜ linesAnswer r ≡ strikeOf (now (text .entry)) (now (out .entry)) ⌝ }
+pub fn strike(text: &[u8], out: &mut [u8]) -> Counted
+    ensures answers { λ r. ⌜ countAnswer r ≡ strikeOf (now (text .entry)) (now (out .entry)) ⌝ }
     ensures writes { λ _. ⌜ now (out .exit) ≡ strikeWritten (now (text .entry)) (now (out .entry)) ⌝ }
 {
     let r = reader::read(text);
     if r.number != 0 {
-        return LinesWritten::Refused {
+        return Counted::Refused {
             number: r.number,
             line: r.line,
         };
     }
-    lines_written(striking::strike(text, r.table, out))
+    count_written(striking::strike(text, r.table, out))
 }
 
 // Join: writes the line of the row that rows i and j are joined to into out from its start, in capitals and without line feed. Returns its length.
 // The rest of out is unchanged, and all of it where there is a refusal.
-pub fn join(text: &[u8], i: usize, j: usize, out: &mut [u8]) -> LinesWritten
-    ensures answers { λ r. ⌜ linesAnswer r ≡ joinOf (now (text .entry)) i j (now (out .entry)) ⌝ }
+pub fn join(text: &[u8], i: usize, j: usize, out: &mut [u8]) -> Counted
+    ensures answers { λ r. ⌜ countAnswer r ≡ joinOf (now (text .entry)) i j (now (out .entry)) ⌝ }
     ensures writes { λ _. ⌜ now (out .exit) ≡ joinWritten (now (text .entry)) i j (now (out .entry)) ⌝ }
 {
     let r = reader::read(text);
     if r.number != 0 {
-        return LinesWritten::Refused {
+        return Counted::Refused {
             number: r.number,
             line: r.line,
         };
     }
     if r.table.rows <= i {
-        return LinesWritten::Refused {
+        return Counted::Refused {
             number: refusals::NO_SUCH_ROW,
             line: 0,
         };
     }
     if r.table.rows <= j {
-        return LinesWritten::Refused {
+        return Counted::Refused {
             number: refusals::NO_SUCH_ROW,
             line: 0,
         };
@@ -214,13 +208,43 @@ pub fn join(text: &[u8], i: usize, j: usize, out: &mut [u8]) -> LinesWritten
     let a = table::row_at(&r.table.heads, &r.table.bounds, i);
     let b = table::row_at(&r.table.heads, &r.table.bounds, j);
     if !joining::joinable(&r.table.parents, a, b) {
-        return LinesWritten::Refused {
+        return Counted::Refused {
             number: refusals::NOT_JOINABLE,
             line: 0,
         };
     }
     let joined = joining::joined(&r.table.parents, a, b);
-    lines_written(row::put_line(joined, row::KIND, ADDRESS, out))
+    count_written(row::put_line(joined, row::KIND, ADDRESS, out))
+}
+
+// Prefixes: writes the prefixes of row k's source addresses (side 0) or destination addresses (side 1) into out from its start, ascending: four bytes
+// of the address, most significant first, and the length. Returns their count. The rest of out is unchanged, and all of it where there is a refusal.
+pub fn prefixes(text: &[u8], k: usize, side: u8, out: &mut [u8]) -> Counted
+    ensures answers { λ r. ⌜ countAnswer r ≡ prefixesOf (now (text .entry)) k side (now (out .entry)) ⌝ }
+    ensures writes { λ _. ⌜ now (out .exit) ≡ prefixesWritten (now (text .entry)) k side (now (out .entry)) ⌝ }
+{
+    let r = reader::read(text);
+    if r.number != 0 {
+        return Counted::Refused {
+            number: r.number,
+            line: r.line,
+        };
+    }
+    if r.table.rows <= k {
+        return Counted::Refused {
+            number: refusals::NO_SUCH_ROW,
+            line: 0,
+        };
+    }
+    if !prefixes::side::is_side(side) {
+        return Counted::Refused {
+            number: refusals::NO_SUCH_SIDE,
+            line: 0,
+        };
+    }
+    let selector = table::selector_at(&r.table.bounds, k);
+    let range = prefixes::side::addresses(selector, side);
+    count_written(prefixes::put(range, ADDRESS, out))
 }
 
 // Winner: the row that wins the probe in the group that row k names, or nobody.

@@ -1,7 +1,7 @@
 // Prints what every call answers. The arguments come in pairs: the name of a table's text, and that of a file of questions, one a line. A question
 // of 32 digits is a probe: the row that names the group, the two entities, and the packet (source and destination address, source and destination
-// port, protocol). One of 6 digits is a couple: two rows, and the length of an output. A refusal is ! and two digits each of number and line. Of
-// each pair are printed:
+// port, protocol). One of 6 digits is a couple: two rows, and the length of an output. One of 8 digits is a side: a row, the side, and the length of
+// an output in two bytes, at most 512. A refusal is ! and two digits each of number and line. Of each pair are printed:
 // - the text's name, and Check's answer: the counts of entities, filters and rows, two digits each
 // - Line's answer for each row, and for one number more
 // - List's entries, six digits each
@@ -9,9 +9,10 @@
 // - Strike's text
 // - Winner's answer for each probe: the row's two digits, or none
 // - Join's answer for each couple: the length's two digits, or the refusal; and all of the output, which had a . at each place before the call
+// - Prefixes' answer for each side: the count's two digits, or the refusal; and the digits of all of the output, with a . at each place before the call
 ghost use Rattle.io.specs.Counts.{Counts};
 use analyser::Checked;
-use analyser::LinesWritten;
+use analyser::Counted;
 use analyser::Winner;
 use analyser::Witness;
 use libc::STDOUT_FILENO;
@@ -20,7 +21,7 @@ use policy::selector::Packet;
 use printing::limits::PRINTED;
 use relations::group::Probe;
 
-// How many bytes a field's number has, and a probe and a couple have digits.
+// How many bytes a field's number has, and a probe, a couple and a side have digits.
 const ADDRESS: usize = 4;
 
 const PORT: usize = 2;
@@ -31,11 +32,22 @@ const PROBE_DIGITS: usize = 32;
 
 const COUPLE_DIGITS: usize = 6;
 
+const SIDE_DIGITS: usize = 8;
+
 // The shortest question, with its line feed.
 const QUESTION: usize = COUPLE_DIGITS + 1;
 
-// The longest output that a couple can ask for.
-const OUTPUT: usize = 255;
+// The longest output that a couple can ask for, and a side.
+const JOINED: usize = 255;
+
+const PREFIXES: usize = 512;
+
+// A call that is asked questions.
+enum Call {
+    Winner,
+    Join,
+    Prefixes,
+}
 
 fn put_text(text: &[u8]) {
     io::write_all(STDOUT_FILENO, text);
@@ -171,13 +183,18 @@ fn put_winner(text: &[u8], line: &[u8]) {
     }
 }
 
-// Join's answer for two rows, and the output.
-fn put_joined(text: &[u8], first: usize, second: usize, out: &mut [u8]) {
-    match analyser::join(text, first, second, out) {
-        LinesWritten::Length(n) => put_count(n),
-        LinesWritten::Refused { number, line } => put_number_and_line(number, line),
+// The count's digits, or the refusal; and a space.
+fn put_counted(answer: Counted) {
+    match answer {
+        Counted::Count(n) => put_count(n),
+        Counted::Refused { number, line } => put_number_and_line(number, line),
     }
     put_text(b" ");
+}
+
+// Join's answer for two rows, and the output.
+fn put_joined(text: &[u8], first: usize, second: usize, out: &mut [u8]) {
+    put_counted(analyser::join(text, first, second, out));
     put_text(out);
     put_text(b"\n");
 }
@@ -188,7 +205,7 @@ fn put_join(text: &[u8], line: &[u8]) {
         return;
     }
     let length = hex::u8_at(line, 2) as usize;
-    let mut out = [b'.'; OUTPUT];
+    let mut out = [b'.'; JOINED];
     put_joined(
         text,
         hex::u8_at(line, 0) as usize,
@@ -197,19 +214,51 @@ fn put_join(text: &[u8], line: &[u8]) {
     );
 }
 
-// Join's answer to the question, or Winner's, if it is one for that call.
-fn put_question(text: &[u8], line: &[u8], join: bool) {
-    if join {
-        put_join(text, line);
-    } else {
-        put_winner(text, line);
+// The digits of all bytes.
+fn put_digits(bytes: &[u8]) {
+    for k in 0..bytes.len() {
+        put(bytes[k]);
+    }
+}
+
+// Prefixes' answer for a row's side, and the output.
+fn put_prefixes(text: &[u8], row: usize, side: u8, out: &mut [u8]) {
+    put_counted(analyser::prefixes(text, row, side, out));
+    put_digits(out);
+    put_text(b"\n");
+}
+
+// The same, if the line says a side.
+fn put_side(text: &[u8], line: &[u8]) {
+    if line.len() != SIDE_DIGITS {
+        return;
+    }
+    let length = hex::number_at(line, 2, 2) as usize;
+    if PREFIXES < length {
+        return;
+    }
+    let mut out = [b'.'; PREFIXES];
+    put_prefixes(
+        text,
+        hex::u8_at(line, 0) as usize,
+        hex::u8_at(line, 1),
+        &mut out[..length],
+    );
+}
+
+// The call's answer to the question, if it is one for that call.
+fn put_question(text: &[u8], line: &[u8], call: Call) {
+    match call {
+        Call::Winner => put_winner(text, line),
+        Call::Join => put_join(text, line),
+        Call::Prefixes => put_side(text, line),
     }
 }
 
 // The same for each line.
-fn put_questions(text: &[u8], questions: &[u8], join: bool) {
+fn put_questions(text: &[u8], questions: &[u8], call: Call) {
     for k in 0..questions.len() / QUESTION {
-        put_question(text, reader::nth_line(questions, k), join);
+        put_question(text, reader::nth_line(questions, k), call);
     }
 }
 
@@ -219,8 +268,9 @@ fn answer(text: &[u8], questions: &[u8]) {
     put_list(text);
     put_rows(text, rows, true);
     put_strike(text);
-    put_questions(text, questions, false);
-    put_questions(text, questions, true);
+    put_questions(text, questions, Call::Winner);
+    put_questions(text, questions, Call::Join);
+    put_questions(text, questions, Call::Prefixes);
 }
 
 // The file's descriptor; below 0, with a message, if it cannot be opened.

@@ -14,3 +14,4 @@ pub mod Outputs
 pub mod Copying
 pub mod Checks
 pub mod Answers
+pub mod Ascending

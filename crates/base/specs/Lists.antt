@@ -1,9 +1,9 @@
 -- Lists: given by what stands at each place, or filled from the start; tests on lists of numbers, and on the numbers below a bound; the things and
--- the numbers that pass a test.
+-- the numbers that pass a test; lists that ascend.
 -- Assumes nothing.
 use Prim.Native.Nat.{ℕ, zero, suc}
 use mathlib.Core.Bool.{Bool, true, false, _&&_, _||_}
-use mathlib.Core.List.{List, [], _∷_}
+use mathlib.Core.List.{List, [], _∷_, List·Memᴰ}
 use lib.Dec.{eqb, ltb}
 use Rattle.base.specs.Truths.{pick}
 
@@ -51,3 +51,8 @@ passing test tell (x ∷ xs) = pick (test x) (tell x ∷ passing test tell xs) (
 unfoldable pub numbersFrom : (ℕ → Bool) → ℕ → ℕ → List ℕ
 numbersFrom test zero k = []
 numbersFrom test (suc n) k = elim (test k) [ true ↦ k ∷ numbersFrom test n (suc k) | false ↦ numbersFrom test n (suc k) ]
+
+-- Each is before all that follow it, by any relation.
+abbrev pub Ascends : {A : Type 0} → (A → A → Type 0) → List A → Type 0
+Ascends Before [] = Unit {0}
+Ascends {A} Before (x ∷ l) = ((y : A) → List·Memᴰ y l → Before x y) × Ascends Before l

@@ -2,9 +2,9 @@
 ghost use mathlib.Core.Path.{_≡_};
 ghost use Rattle.base.specs.Truths.{bit as bitOf};
 
-// What becomes of a result that is written to a caller's output: how many bytes were written, or that the output is shorter.
+// What becomes of a result that is written to a caller's output: how many it is, bytes of a text or things of a list, or that the output is shorter.
 pub enum Written {
-    Length(usize),
+    Count(usize),
     Short,
 }
 

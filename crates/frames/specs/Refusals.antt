@@ -45,3 +45,7 @@ noSuchEntity = 10
 -- Document 02, [2]: "when holder, technology, G or either end's root differ"
 abbrev pub notJoinable : ℕ
 notJoinable = 11
+
+-- Document 02, [5]: "when the side is above 1"
+abbrev pub noSuchSide : ℕ
+noSuchSide = 12

@@ -5,7 +5,7 @@ pub mod entity;
 pub mod filter;
 pub mod floor;
 mod numbers;
-mod parts;
+pub mod parts;
 pub mod refusals;
 pub mod row;
 pub mod widths;

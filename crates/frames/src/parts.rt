@@ -1,4 +1,4 @@
-// What several frames have: a length, coefficients, a box.
+// What several frames have: a length, coefficients, a box. The bytes of a number, which prefixes have too.
 ghost use mathlib.Core.Path.{_≡_};
 ghost use Prim.Native.Nat.{_+_, _*_, _<_, _≤_};
 ghost use lib.Dec.{eqb};
@@ -93,7 +93,7 @@ pub fn put_bytes(from: &[u8], bytes: &mut [u8], at: usize)
 }
 
 // Writes the number's bytes, so many, the most significant first, into bytes from place at on. The rest of bytes is unchanged.
-fn put_number(n: Number, width: usize, bytes: &mut [u8], at: usize)
+pub fn put_number(n: Number, width: usize, bytes: &mut [u8], at: usize)
     requires { ⌜ at + width ≤ length (now bytes) ⌝ }
     ensures { λ _. ⌜ now (bytes .exit) ≡ sets (now (bytes .entry)) at (numberBytes width (value n)) ⌝ }
 {

@@ -25,6 +25,8 @@ pub const NO_SUCH_ENTITY: u8 = 10;
 
 pub const NOT_JOINABLE: u8 = 11;
 
+pub const NO_SUCH_SIDE: u8 = 12;
+
 // The number that refuses what breaks this condition; if it holds, that of the others.
 pub fn or_else(holds: bool, number: u8, others: u8) -> u8
     ensures { λ r. ⌜ r ≡ pick holds others number ⌝ }

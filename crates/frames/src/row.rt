@@ -176,5 +176,5 @@ pub fn put_line(r: Row, kind: u8, address: usize, out: &mut [u8]) -> Written
         return Written::Short;
     }
     hex::put(&bytes[..n], out, 0);
-    Written::Length(2 * n)
+    Written::Count(2 * n)
 }

@@ -2,9 +2,10 @@
 -- Assumes nothing.
 use Prim.Native.Nat.{ℕ, zero, suc, _<_}
 use mathlib.Core.Path.{_≡_}
-use mathlib.Core.List.{List, [], _∷_, _++_, List·Memᴰ}
+use mathlib.Core.List.{List, [], _∷_, _++_}
 use lib.ListN.{length}
 use Rattle.base.specs.Truths.{pick}
+use Rattle.base.specs.Lists.{Ascends}
 use Rattle.policy.specs.Model.{Table}
 use Rattle.kinds.specs.Kinds.{noSecond, kindCount, anomaly}
 
@@ -48,5 +49,4 @@ pub data Before : Entry → Entry → Type 0 where
 
 -- Each entry is before all that follow it; so each is there once.
 abbrev pub Ascending : List Entry → Type 0
-Ascending [] = Unit {0}
-Ascending (e ∷ l) = ((f : Entry) → List·Memᴰ f l → Before e f) × Ascending l
+Ascending l = Ascends Before l

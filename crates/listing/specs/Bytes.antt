@@ -6,11 +6,9 @@ use mathlib.Core.Path.{_≡_}
 use mathlib.Core.List.{List, [], _∷_}
 use lib.ListN.{length}
 use lib.Seq.{sets}
-use Rattle.base.specs.Truths.{pick}
-use Rattle.base.specs.Outputs.{fits, written}
+use Rattle.base.specs.Outputs.{WritesCounted}
+use Rattle.base.specs.declared.Written.{Written}
 use Rattle.kinds.specs.Entries.{Entry, mostEntries}
-use Rattle.listing.specs.declared.Tally.{Tally}
-use Rattle.listing.specs.declared.Tally.the-variants.{Count, Short}
 
 -- "three bytes an entry"
 abbrev pub entryBytes : ℕ
@@ -24,14 +22,9 @@ unfoldable pub bytes : List Entry → List ℕ
 bytes [] = []
 bytes (e ∷ es) = e .row ∷ e .kind ∷ e .second ∷ bytes es
 
--- The count, or that the buffer is shorter than the result.
-abbrev pub tallyOf : List Entry → List ℕ → Tally
-tallyOf es out = pick (fits (bytes es) out) (Count (length es)) Short
-
 -- What becomes of the buffer, and what is answered.
-pub record Listing (es : List Entry) (before after : List ℕ) (r : Tally) : Type 0 where
-  pub buffer : after ≡ written (bytes es) before
-  pub result : r ≡ tallyOf es before
+abbrev pub Listing : List Entry → (before after : List ℕ) → Written → Type 0
+Listing es before after r = WritesCounted (length es) (bytes es) before after r
 
 -- There is room for the entries es after n others.
 abbrev pub Room : ℕ → List Entry → Type 0

@@ -10,14 +10,9 @@ ghost use Rattle.listing.specs.Bytes.{Listing, Put};
 use crate::limits::ENTRY_BYTES;
 use crate::limits::LIST_BYTES;
 use crate::put::Staged;
+use base::Written;
 use kinds::placed;
 use policy::table::Table;
-
-// How many entries there are, or that they need more room.
-pub enum Tally {
-    Count(usize),
-    Short,
-}
 
 // Writes the table's entries into staged from its start. Returns how many there are; the other bytes stay.
 fn stage(t: Table, staged: &mut Staged) -> usize
@@ -50,15 +45,15 @@ fn stage(t: Table, staged: &mut Staged) -> usize
 
 // Writes the table's entries into out from its start, three bytes each, if there is room for all; the rest of out is unchanged, and all of it
 // where it is too short.
-pub fn list(t: Table, out: &mut [u8]) -> Tally
+pub fn list(t: Table, out: &mut [u8]) -> Written
     requires { ⌜ Held t × Wellformed (tableOf t) ⌝ }
     ensures { λ r. ⌜ Listing (entries (tableOf t)) (now (out .entry)) (now (out .exit)) r ⌝ }
 {
     let mut staged = [0u8; LIST_BYTES];
     let n = stage(t, &mut staged);
     if out.len() < ENTRY_BYTES * n {
-        return Tally::Short;
+        return Written::Short;
     }
     bytes::copy(&staged[..ENTRY_BYTES * n], out);
-    Tally::Count(n)
+    Written::Count(n)
 }

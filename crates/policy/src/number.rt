@@ -1,12 +1,15 @@
 // The number of a field: an address, a port or a protocol. What stands above reaches it by these functions and by its value alone.
 ghost use mathlib.Core.Path.{_≡_};
-ghost use Prim.Native.Nat.{_/_, _%_, _^_, _<_, suc, min, max};
+ghost use Prim.Native.Nat.{_-_, _*_, _/_, _%_, _^_, _≤_, _<_, suc, min, max};
 ghost use lib.Dec.{leb};
 ghost use Rattle.policy.specs.Views.{value};
 
 pub struct Number {
     word: u64,
 }
+
+// How many bits a word has.
+const WORD_BITS: usize = 64;
 
 impl Number {
     // The number of this value.
@@ -38,6 +41,45 @@ impl Number {
         Number {
             word: self.word + 1,
         }
+    }
+
+    // The number before self, which is above least.
+    pub fn previous(self, least: Number) -> Number
+        requires { ⌜ value least < value self ⌝ }
+        ensures { λ r. ⌜ value r ≡ value self - 1 ⌝ }
+    {
+        Number {
+            word: self.word - 1,
+        }
+    }
+
+    // The last bit of the number.
+    pub fn last_bit(self) -> u8
+        ensures { λ r. ⌜ r ≡ value self % 2 ⌝ }
+    {
+        (self.word % 2) as u8
+    }
+
+    // The number without its last bit.
+    pub fn half(self) -> Number
+        ensures { λ r. ⌜ value r ≡ value self / 2 ⌝ }
+    {
+        Number {
+            word: self.word / 2,
+        }
+    }
+
+    // The number with k bits more, which are 0; it is at most limit.
+    pub fn raised(self, k: usize, limit: Number) -> Number
+        requires { ⌜ value self * 2 ^ k ≤ value limit ⌝ }
+        ensures { λ r. ⌜ value r ≡ value self * 2 ^ k ⌝ }
+    {
+        if k < WORD_BITS {
+            return Number {
+                word: self.word << k,
+            };
+        }
+        Number { word: 0 }
     }
 
     // The lesser of the two.

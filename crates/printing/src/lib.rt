@@ -4,8 +4,7 @@ pub mod limits;
 
 ghost use Rattle.reader.specs.States.{parse};
 ghost use Rattle.printing.specs.Printed.{refusalLine, hexLines, listPrinted, struckPrinted, rowlistPrints, strikePrints, Prints};
-use analyser::LinesWritten;
-use analyser::Listed;
+use analyser::Counted;
 use frames::refusals;
 use limits::INPUT;
 use limits::LINE_BYTES;
@@ -56,8 +55,8 @@ pub fn put_list(text: &[u8], out: &mut [u8]) -> usize
 {
     let mut entries = [0u8; LIST_BYTES];
     match analyser::list(text, &mut entries) {
-        Listed::Count(n) => put_entries(&entries[..ENTRY_BYTES * n], out),
-        Listed::Refused { number, line } => put_refusal(number, line, out),
+        Counted::Count(n) => put_entries(&entries[..ENTRY_BYTES * n], out),
+        Counted::Refused { number, line } => put_refusal(number, line, out),
     }
 }
 
@@ -76,8 +75,8 @@ pub fn put_struck(text: &[u8], out: &mut [u8]) -> usize
     ensures { λ n. ⌜ Prints (struckPrinted (now (text .entry)) (parse (now (text .entry)))) (now (out .entry)) (now (out .exit)) n ⌝ }
 {
     match analyser::strike(text, out) {
-        LinesWritten::Length(n) => n,
-        LinesWritten::Refused { number, line } => {
+        Counted::Count(n) => n,
+        Counted::Refused { number, line } => {
             if number == refusals::SHORT_OUTPUT {
                 return 0;
             }

@@ -101,5 +101,5 @@ pub fn strike(text: &[u8], t: Table, out: &mut [u8]) -> Written
         return Written::Short;
     }
     copy_kept(text, &dead, others, out);
-    Written::Length(n)
+    Written::Count(n)
 }

@@ -1,10 +1,8 @@
 // What the benchmark calls: a text and rows' numbers in, a number out.
 ghost use mathlib.Core.Path.{_≡_};
-ghost use Rattle.analyser.specs.Calls.{checkOf, witnessOf, packed, strikeOf, strikeWritten, joinOf, joinWritten};
-ghost use Rattle.analyser.specs.Views.{linesAnswer};
+ghost use Rattle.analyser.specs.Calls.{checkOf, witnessOf, packed, strikeOf, strikeWritten, joinOf, joinWritten, prefixesOf, prefixesWritten};
 ghost use Rattle.timed.specs.Codes.{checkCode, witnessCode};
 use analyser::Checked;
-use analyser::LinesWritten;
 use analyser::Witness;
 
 // 0 if the text is accepted, else 1.
@@ -34,23 +32,13 @@ pub extern "C" fn timed_witness(text: &[u8], k: usize) -> u64
     }
 }
 
-// What a call that writes lines answers, as one number: the length, or the refusal.
-fn lines_number(answer: LinesWritten) -> u64
-    ensures { λ n. ⌜ n ≡ packed (linesAnswer answer) ⌝ }
-{
-    match answer {
-        LinesWritten::Length(n) => n as u64,
-        LinesWritten::Refused { number, line } => analyser::packed_refusal(number, line),
-    }
-}
-
 // The length of the struck text, or the refusal as one number. Writes what Strike writes.
 #[no_mangle]
 pub extern "C" fn timed_strike(text: &[u8], out: &mut [u8]) -> u64
     ensures answers { λ n. ⌜ n ≡ packed (strikeOf (now (text .entry)) (now (out .entry))) ⌝ }
     ensures writes { λ _. ⌜ now (out .exit) ≡ strikeWritten (now (text .entry)) (now (out .entry)) ⌝ }
 {
-    lines_number(analyser::strike(text, out))
+    analyser::packed_count(analyser::strike(text, out))
 }
 
 // The length of the line of rows i and j joined, or the refusal as one number. Writes what Join writes.
@@ -59,5 +47,14 @@ pub extern "C" fn timed_join(text: &[u8], i: usize, j: usize, out: &mut [u8]) ->
     ensures answers { λ n. ⌜ n ≡ packed (joinOf (now (text .entry)) i j (now (out .entry))) ⌝ }
     ensures writes { λ _. ⌜ now (out .exit) ≡ joinWritten (now (text .entry)) i j (now (out .entry)) ⌝ }
 {
-    lines_number(analyser::join(text, i, j, out))
+    analyser::packed_count(analyser::join(text, i, j, out))
+}
+
+// The count of the prefixes of a side of row k, or the refusal as one number. Writes what Prefixes writes.
+#[no_mangle]
+pub extern "C" fn timed_prefixes(text: &[u8], k: usize, side: u8, out: &mut [u8]) -> u64
+    ensures answers { λ n. ⌜ n ≡ packed (prefixesOf (now (text .entry)) k side (now (out .entry))) ⌝ }
+    ensures writes { λ _. ⌜ now (out .exit) ≡ prefixesWritten (now (text .entry)) k side (now (out .entry)) ⌝ }
+{
+    analyser::packed_count(analyser::prefixes(text, k, side, out))
 }

@@ -64,4 +64,4 @@ module _ (text : List ℕ) (t : Table) (e : parse text ≡ returned t) (i j : �
       pub join-writes : (after : List ℕ) (r : Written) → Writes (joinedLine i j t) out after r
           → (roomAnswer r ≡ joinOf text i j out) × (after ≡ joinWritten text i j out)
       unfolding joinOf joinWritten
-      join-writes after r w = call-writes (joinConditions i j) (joinedLine i j) out (parse text) t e join-kept after r w
+      join-writes after r w = call-writes (joinConditions i j) (λ l. l) length (joinedLine i j) out (parse text) t e join-kept after r w

@@ -1,7 +1,7 @@
 -- The calls that write a result:
 --   room, no-room: their condition, kept and broken
 --   call-broken: what such a call does, of a text that is accepted, where another condition is broken
---   call-asked, call-accepted, call-writes: where none is, and the result is written if it fits
+--   call-asked, call-writes: where none is, and the result is written if it fits
 --   call-short, call-whole: its answer and output, for an output too short, and for one with room
 --   list-told, list-refused, strike-told, strike-refused: why List and Strike answer as they do
 --   list-wrote, strike-wrote, strike-left: what they leave in the output, where they tell a number, and where they refuse
@@ -16,9 +16,9 @@ use mathlib.Core.List.{List, [], _∷_, _++_}
 use lib.ListN.{length, drop}
 use borrow.Author.Tests.{leb-true, leb-false}
 use Rattle.base.specs.Truths.{pick}
-use Rattle.base.specs.Outputs.{fits, written, Writes}
+use Rattle.base.specs.Outputs.{fits, written, WritesCounted}
 use Rattle.base.specs.declared.Written.{Written}
-use Rattle.base.specs.declared.Written.the-variants.{Length, Short}
+use Rattle.base.specs.declared.Written.the-variants.{Count as Whole, Short}
 use Rattle.base.specs.Checks.{Check}
 use Rattle.base.specs.Answers.{Answer, returned, refusedBy, told, wrote, given}
 use Rattle.base.proofs.Laws.Outputs.{fits-not, fits-all}
@@ -31,9 +31,9 @@ use Rattle.listing.specs.Bytes.{bytes, entryBytes}
 use Rattle.listing.proofs.Laws.Puts.{length-bytes}
 use Rattle.striking.specs.Texts.{struckText}
 use Rattle.analyser.specs.Calls.{hasRoom, writing, noConditions, listOf, listWritten, strikeOf, strikeWritten}
-use Rattle.analyser.specs.Views.{listAnswer, roomAnswer}
-use Rattle.analyser.specs.declared.Listed.{Listed}
-use Rattle.analyser.specs.declared.Listed.the-variants.{Count}
+use Rattle.analyser.specs.Views.{countAnswer, roomAnswer}
+use Rattle.analyser.specs.declared.Counted.{Counted}
+use Rattle.analyser.specs.declared.Counted.the-variants.{Count}
 
 -- ---- the condition
 
@@ -72,16 +72,13 @@ module _ {A : Type 0} (conditions : Table → List Check) (result : A → List �
       output-accepted : outputAfter x ≡ written (result (value t)) out
       output-accepted = ap (λ y. wrote result y out) call-asked ∙ wrote-room (value t) shortOutput result out
 
-      -- Where the result is written if it fits, and one of two answers says which.
-      pub call-accepted : (after : List ℕ) {E : Type 0} (f : E → Answer ℕ) (whole short r : E)
-          → f whole ≡ returned (tell (value t)) → f short ≡ refusedBy shortOutput 0 → r ≡ pick (fits (result (value t)) out) whole short
-          → after ≡ written (result (value t)) out → (f r ≡ answerTo x) × (after ≡ outputAfter x)
-      call-accepted after f whole short r w s a o =
-          (ap f a ∙ picked (fits (result (value t)) out) ∙ sym answer-accepted, o ∙ sym output-accepted)
+      -- Where the result is written if it fits.
+      pub call-writes : (after : List ℕ) (r : Written) → WritesCounted (tell (value t)) (result (value t)) out after r → (roomAnswer r ≡ answerTo x) × (after ≡ outputAfter x)
+      call-writes after r w = (ap roomAnswer (w .answer) ∙ picked (fits (result (value t)) out) ∙ sym answer-accepted, w .output ∙ sym output-accepted)
         where
-          picked : (b : Bool) → f (pick b whole short) ≡ pick b (returned (tell (value t))) (refusedBy shortOutput 0)
-          picked true = w
-          picked false = s
+          picked : (b : Bool) → roomAnswer (pick b (Whole (tell (value t))) Short) ≡ pick b (returned (tell (value t))) (refusedBy shortOutput 0)
+          picked true = refl
+          picked false = refl
 
       pub call-short : length out < length (result (value t)) → (answerTo x ≡ refusedBy shortOutput 0) × (outputAfter x ≡ out)
       call-short h = let n = fits-not (result (value t)) out h in (answer-accepted ∙ rw n, output-accepted ∙ rw n)
@@ -89,14 +86,6 @@ module _ {A : Type 0} (conditions : Table → List Check) (result : A → List �
       pub call-whole : length (result (value t)) ≤ length out
           → (answerTo x ≡ returned (tell (value t))) × (outputAfter x ≡ result (value t) ++ drop (length (result (value t))) out)
       call-whole h = let n = fits-all (result (value t)) out h in (answer-accepted ∙ rw n, output-accepted ∙ rw n)
-
--- A call that writes a text or a line, and does so where there is room.
-module _ (conditions : Table → List Check) (value : Table → List ℕ) (out : List ℕ) (x : Answer Table) (t : Table) (e : x ≡ returned t)
-    (kept : Kept (conditions t)) where
-  pub call-writes : (after : List ℕ) (r : Written) → Writes (value t) out after r
-      → (roomAnswer r ≡ answerTo conditions (λ l. l) length value out x) × (after ≡ outputAfter conditions (λ l. l) length value out x)
-  call-writes after r w =
-      call-accepted conditions (λ l. l) length value out x t e kept after roomAnswer (Length (length (value t))) Short r refl refl (w .answer) (w .output)
 
 -- ---- List and Strike
 
@@ -138,7 +127,7 @@ module _ (text out : List ℕ) where
   strike-left number line e = wrote-refused length (λ l. l) out (writing noConditions (λ l. l) (struckText text) out (parse text)) number line e
 
   -- As many entries as are counted have room.
-  pub count-fits : (r : Listed) (n : ℕ) → listAnswer r ≡ listOf text out → r ≡ Count n → entryBytes * n ≤ length out
+  pub count-fits : (r : Counted) (n : ℕ) → countAnswer r ≡ listOf text out → r ≡ Count n → entryBytes * n ≤ length out
   count-fits r n a e =
-      let w = list-told n (sym a ∙ ap listAnswer e) in
+      let w = list-told n (sym a ∙ ap countAnswer e) in
       omega (arith, w .tells, room (bytes (entries (w .of))) out (w .keeps), length-bytes (entries (w .of)))

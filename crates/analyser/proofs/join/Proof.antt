@@ -181,4 +181,4 @@ join-spec =
     (λ c κs. search needs)
     (λ c κs. search needs)
     (λ c. search needs)
-    (λ c. let d = done (c .before .before .before) in (c .lines-written .ensures ∙ d .0, d .1)))
+    (λ c. let d = done (c .before .before .before) in (c .count-written .ensures ∙ d .0, d .1)))

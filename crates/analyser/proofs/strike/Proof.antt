@@ -2,6 +2,7 @@
 use borrow.Author.Needs.{needs}
 use mathlib.Core.Path.{_≡_, refl, _∙_}
 use denote.Ref.{now}
+use lib.ListN.{length}
 use Rattle.reader.proofs.Laws.Readers.{table-sized}
 use Rattle.striking.specs.Texts.{struckText}
 use Rattle.analyser.specs.Calls.{noConditions, strikeOf, strikeWritten}
@@ -23,7 +24,7 @@ taken c = let r = c .before .before .read in accepted _ (table-sized (r .result)
 done : (c : tie.After-strike) → let s = c .before .before .before .before .before .before .before .args in
     (roomAnswer (c .strike .result) ≡ strikeOf (now (s .text)) (now (s .out))) × (c .strike .last .1 .1 .0 ≡ strikeWritten (now (s .text)) (now (s .out)))
 unfolding strikeOf strikeWritten
-done c = call-writes noConditions (struckText _) _ _ _ (taken (c .before .before) .read) tt _ _ (c .strike .ensures)
+done c = call-writes noConditions (λ l. l) length (struckText _) _ _ _ (taken (c .before .before) .read) tt _ _ (c .strike .ensures)
 
 pub strike-spec : {M : Type 1} → statement M
 strike-spec =
@@ -34,4 +35,4 @@ strike-spec =
     (λ c κs. let a = taken (c .before) in (a .held, a .read))
     (λ c κs. search needs)
     (λ c. search needs)
-    (λ c. let d = done (c .before .before .before) in (c .lines-written .ensures ∙ d .0, d .1)))
+    (λ c. let d = done (c .before .before .before) in (c .count-written .ensures ∙ d .0, d .1)))

@@ -5,10 +5,10 @@ use Rattle.answers.proofs.put_questions.Statement.{statement}
 use Rattle.answers.proofs.put_questions.Tie as tie
 
 abbrev I : tie.InvT-loop
-I text questions join k₀ k-end k = k ≤ k-end
+I text questions call k₀ k-end k = k ≤ k-end
 
 abbrev μ : tie.MeasureT-loop
-μ text questions join k₀ k-end k = k-end - k
+μ text questions call k₀ k-end k = k-end - k
 
 pub put-questions-spec : {M : Type 1} → statement M
 put-questions-spec =

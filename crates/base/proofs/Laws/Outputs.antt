@@ -8,8 +8,8 @@ use native.Mathlib.Omega.{arith}
 use borrow.Author.Tests.{le-leb, lt-leb}
 use lib.ListN.{length, drop, take}
 use lib.Seq.{sets, sets-eq, take-length}
-use Rattle.base.specs.Outputs.{fits, written, Writes}
-use Rattle.base.specs.declared.Written.the-variants.{Length, Short}
+use Rattle.base.specs.Outputs.{fits, written, WritesCounted}
+use Rattle.base.specs.declared.Written.the-variants.{Count, Short}
 
 module _ (result out : List ℕ) where
   -- ---- too short
@@ -20,7 +20,7 @@ module _ (result out : List ℕ) where
   pub written-not : length out < length result → out ≡ written result out
   written-not h = rw (fits-not h)
 
-  pub writes-not : length out < length result → Writes result out out Short
+  pub writes-not : {n : ℕ} → length out < length result → WritesCounted n result out out Short
   writes-not h = record { output = written-not h; answer = rw (fits-not h) refl }
 
   -- ---- room for the result
@@ -44,5 +44,9 @@ module _ (result out : List ℕ) where
         ∙ ap (λ (l : List ℕ). l ++ drop (length result) out) (take-length result)
         ∙ written-all
 
-    pub writes-stored : {after : List ℕ} (n : ℕ) → n ≡ length result → after ≡ sets out 0 result → Writes result out after (Length n)
-    writes-stored n e f = record { output = f ∙ written-stored; answer = rw fits-all (ap Length e) }
+    pub writes-stored : {after : List ℕ} {m : ℕ} (n : ℕ) → n ≡ m → after ≡ sets out 0 result → WritesCounted m result out after (Count n)
+    writes-stored n e f = record { output = f ∙ written-stored; answer = rw fits-all (ap Count e) }
+
+    pub writes-copied : {m : ℕ} (from after : List ℕ) (n : ℕ) → n ≡ m → from ≡ result → after ≡ take (length from) from ++ drop (length from) out
+        → WritesCounted m result out after (Count n)
+    writes-copied from after n e f g = record { output = g ∙ written-copied from f; answer = rw fits-all (ap Count e) }

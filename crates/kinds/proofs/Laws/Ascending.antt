@@ -1,45 +1,29 @@
 -- The entries of a well-formed table ascend.
 -- Assumes nothing.
 use Prim.Native.Nat.{ℕ, zero, suc, _<_}
-use mathlib.Core.Path.{_≡_, refl, sym, ap, _∙_}
-use mathlib.Core.Bool.{Bool, true, false}
+use mathlib.Core.Path.{_≡_, sym, ap, _∙_}
 use mathlib.Core.Logic.{inl, inr}
-use mathlib.Core.List.{List, [], _∷_, _++_, List·Memᴰ, List·Memᴰ·head, List·Memᴰ·tail, List·Memᴰ·not-nil, List·Memᴰ·append-cases}
+use mathlib.Core.List.{List, List·Memᴰ, List·Memᴰ·append-cases}
 use native.Mathlib.Omega.{arith}
 use lib.ListN.{length}
-use Rattle.base.specs.Truths.{pick}
+use Rattle.base.proofs.Laws.Ascending.{AllBefore, append-ascends, one-ascends}
 use Rattle.policy.specs.Model.{Table}
 use Rattle.policy.specs.Wellformed.{Wellformed}
 use Rattle.kinds.specs.Kinds.{kindCount, noSecond, anomaly}
 use Rattle.kinds.specs.Entries.{Entry, entry, gather, listed, ofKind, ofRow, entries, Before, by-row, by-kind, by-second, Ascending}
 use Rattle.kinds.proofs.Laws.Entries.{gather-of, listed-of}
 
--- Each entry of the one list is before each of the other.
-abbrev AllBefore : List Entry → List Entry → Type 0
-AllBefore l m = (e f : Entry) → List·Memᴰ e l → List·Memᴰ f m → Before e f
-
-append-ascends : (l m : List Entry) → Ascending l → Ascending m → AllBefore l m → Ascending (l ++ m)
-append-ascends [] m a b h = b
-append-ascends (e ∷ l) m a b h = (
-  (λ f n. elim (List·Memᴰ·append-cases l n) [ inl k ↦ a .0 f k | inr k ↦ h e f (List·Memᴰ·head refl) k ]),
-  append-ascends l m (a .1) b (λ x y p q. h x y (List·Memᴰ·tail p) q),
-)
-
-gather-ascends : (f : ℕ → List Entry) (n k : ℕ) → ((x : ℕ) → Ascending (f x)) → ((x y : ℕ) → x < y → AllBefore (f x) (f y))
+gather-ascends : (f : ℕ → List Entry) (n k : ℕ) → ((x : ℕ) → Ascending (f x)) → ((x y : ℕ) → x < y → AllBefore Before (f x) (f y))
     → Ascending (gather n k f)
 unfolding gather
 gather-ascends f zero k a h = tt
 gather-ascends f (suc n) k a h =
-    append-ascends (f k) (gather n (suc k) f) (a k) (gather-ascends f n (suc k) a h)
+    append-ascends Before (f k) (gather n (suc k) f) (a k) (gather-ascends f n (suc k) a h)
     (λ e g p q. let r = gather-of g f n (suc k) q in h k (r .0) (omega (arith, r .1)) e g p (r .3))
 
 module _ (t : Table) (w : Wellformed t) where
   listed-ascends : (i kind j : ℕ) → Ascending (listed t i kind j)
-  listed-ascends i kind j = go (anomaly t i kind j)
-    where
-      go : (b : Bool) → Ascending (pick b (entry i kind j ∷ []) [])
-      go true = ((λ f m. absurd (List·Memᴰ·not-nil m)), tt)
-      go false = tt
+  listed-ascends i kind j = one-ascends Before (anomaly t i kind j) (entry i kind j)
 
   -- The numbers of an entry of a row and a kind, and of a row.
   kind-of : (i kind : ℕ) (e : Entry) → List·Memᴰ e (ofKind t i kind) → (e .row ≡ i) × (e .kind ≡ kind)
@@ -57,7 +41,7 @@ module _ (t : Table) (w : Wellformed t) where
   row-of i e m = let r = gather-of e (ofKind t i) kindCount 1 m in kind-of i (r .0) e (r .3) .0
 
   -- Of one row and kind, second numbers that differ.
-  seconds : (i kind j k : ℕ) → j < k → AllBefore (listed t i kind j) (listed t i kind k)
+  seconds : (i kind j k : ℕ) → j < k → AllBefore Before (listed t i kind j) (listed t i kind k)
   seconds i kind j k h e f p q =
       let a = listed-of t i kind j e p .0 in
       let b = listed-of t i kind k f q .0 in
@@ -68,7 +52,7 @@ module _ (t : Table) (w : Wellformed t) where
 
   kind-ascends : (i kind : ℕ) → Ascending (ofKind t i kind)
   kind-ascends i kind =
-      append-ascends (gather (length (t .rows)) 0 (λ j. listed t i kind j)) (listed t i kind noSecond)
+      append-ascends Before (gather (length (t .rows)) 0 (λ j. listed t i kind j)) (listed t i kind noSecond)
       (gather-ascends (λ j. listed t i kind j) (length (t .rows)) 0 (listed-ascends i kind) (seconds i kind))
       (listed-ascends i kind noSecond)
       (λ e f p q.

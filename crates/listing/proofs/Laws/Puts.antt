@@ -7,12 +7,12 @@ use native.Mathlib.Numerals.{add-one}
 use native.Mathlib.Omega.{arith}
 use lib.ListN.{length, take, drop, length-append}
 use lib.Seq.{sets, sets-eq, take-append-seam}
-use Rattle.base.proofs.Laws.Outputs.{fits-not, written-not, fits-all, written-copied}
+use Rattle.base.proofs.Laws.Outputs.{writes-not, writes-copied}
 use Rattle.base.proofs.Laws.Lists.{sets-append}
 use Rattle.kinds.specs.Entries.{Entry, gather}
 use Rattle.kinds.proofs.Laws.Entries.{gather-next, gather-end}
 use Rattle.listing.specs.Bytes.{entryBytes, bytes, Room, Put, Listing}
-use Rattle.listing.specs.declared.Tally.the-variants.{Count, Short}
+use Rattle.base.specs.declared.Written.the-variants.{Count, Short}
 
 pub bytes-none : bytes [] ≡ []
 unfolding bytes
@@ -63,15 +63,11 @@ put-first {a} {b} {n} {es} p h =
 -- ---- the caller's buffer
 
 pub listing-short : (es : List Entry) (out : List ℕ) → length out < entryBytes * length es → Listing es out out Short
-listing-short es out h =
-    let l : length out < length (bytes es) = omega (arith, length-bytes es) in
-    record { buffer = written-not (bytes es) out l; result = rw (fits-not (bytes es) out l) refl }
+listing-short es out h = writes-not (bytes es) out (omega (arith, h, length-bytes es))
 
 pub listing-whole : (es : List Entry) (out from after : List ℕ) (n : ℕ) → entryBytes * length es ≤ length out → n ≡ length es → from ≡ bytes es
     → after ≡ take (length from) from ++ drop (length from) out → Listing es out after (Count n)
-listing-whole es out from after n h c e a =
-    let l : length (bytes es) ≤ length out = omega (arith, length-bytes es) in
-    record { buffer = a ∙ written-copied (bytes es) out l from e; result = rw (fits-all (bytes es) out l, c) refl }
+listing-whole es out from after n h c e a = writes-copied (bytes es) out (omega (arith, h, length-bytes es)) from after n c e a
 
 -- ---- entries one after another
 

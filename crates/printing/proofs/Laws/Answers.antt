@@ -19,11 +19,9 @@ use Rattle.listing.specs.Bytes.{bytes, entryBytes}
 use Rattle.listing.proofs.Laws.Puts.{length-bytes}
 use Rattle.striking.specs.Texts.{struckText}
 use Rattle.analyser.specs.Calls.{listOf, listWritten, strikeOf, strikeWritten}
-use Rattle.analyser.specs.Views.{listAnswer, linesAnswer}
-use Rattle.analyser.specs.declared.Listed.{Listed}
-use Rattle.analyser.specs.declared.Listed.the-variants.{Count, Refused as ListRefused}
-use Rattle.analyser.specs.declared.LinesWritten.{LinesWritten}
-use Rattle.analyser.specs.declared.LinesWritten.the-variants.{Length, Refused as StrikeRefused}
+use Rattle.analyser.specs.Views.{countAnswer}
+use Rattle.analyser.specs.declared.Counted.{Counted}
+use Rattle.analyser.specs.declared.Counted.the-variants.{Count, Refused}
 use Rattle.analyser.proofs.Laws.Outputs.{room, no-room, list-told, list-refused, list-wrote, strike-told, strike-refused, strike-wrote, strike-left}
 use Rattle.printing.specs.Printed.{refusalLine, hexLines, listPrinted, struckPrinted, Prints}
 use Rattle.printing.proofs.Laws.Lines.{lines-bytes}
@@ -31,11 +29,11 @@ use Rattle.printing.proofs.Laws.Printed.{prints-not, prints-all, prints
 
 -- ---- what List answers with room for all entries
 
-module _ (input out after : List ℕ) (r : Listed) (long : length out ≡ entryBytes * mostEntries) (a : listAnswer r ≡ listOf input out) where
+module _ (input out after : List ℕ) (r : Counted) (long : length out ≡ entryBytes * mostEntries) (a : countAnswer r ≡ listOf input out) where
   pub rowlist-counted : (n : ℕ) → r ≡ Count n → after ≡ listWritten input out → hexLines (take (entryBytes * n) after) ≡ listPrinted (parse input)
   unfolding listPrinted
   rowlist-counted n e o =
-      let w = list-told input out n (sym a ∙ ap listAnswer e) in
+      let w = list-told input out n (sym a ∙ ap countAnswer e) in
       let es = entries (w .of) in
       let b = length-bytes es in
       let m = w .tells in
@@ -44,9 +42,9 @@ module _ (input out after : List ℕ) (r : Listed) (long : length out ≡ entryB
       ∙ lines-bytes es
       ∙ sym (ap listPrinted (w .read))
 
-  pub rowlist-refused : (number line : ℕ) → r ≡ ListRefused number line → refusalLine number line ≡ listPrinted (parse input)
+  pub rowlist-refused : (number line : ℕ) → r ≡ Refused number line → refusalLine number line ≡ listPrinted (parse input)
   unfolding listPrinted
-  rowlist-refused number line e = elim (list-refused input out number line (sym a ∙ ap listAnswer e)) [
+  rowlist-refused number line e = elim (list-refused input out number line (sym a ∙ ap countAnswer e)) [
     | inl p ↦ sym (ap listPrinted p)
     | inr w ↦ let few = entries-few (w .0) (accepted-wellformed input (w .0) (w .1)) in
         let b = length-bytes (entries (w .0)) in
@@ -55,11 +53,11 @@ module _ (input out after : List ℕ) (r : Listed) (long : length out ≡ entryB
 
 -- ---- what Strike answers
 
-module _ (input out after : List ℕ) (r : LinesWritten) (a : linesAnswer r ≡ strikeOf input out) (o : after ≡ strikeWritten input out) where
-  pub strike-whole : (n : ℕ) → r ≡ Length n → Prints (struckPrinted input (parse input)) out after n
+module _ (input out after : List ℕ) (r : Counted) (a : countAnswer r ≡ strikeOf input out) (o : after ≡ strikeWritten input out) where
+  pub strike-whole : (n : ℕ) → r ≡ Count n → Prints (struckPrinted input (parse input)) out after n
   unfolding struckPrinted
   strike-whole n e =
-      let w = strike-told input out n (sym a ∙ ap linesAnswer e) in
+      let w = strike-told input out n (sym a ∙ ap countAnswer e) in
       let result = struckText input (w .of) in
       let l = room result out (w .keeps) in
       prints-other (sym (ap (struckPrinted input) (w .read)))
@@ -67,16 +65,16 @@ module _ (input out after : List ℕ) (r : LinesWritten) (a : linesAnswer r ≡ 
       (o ∙ strike-wrote input out w ∙ written-all result out l)
       (w .tells))
 
-  module _ (number line : ℕ) (e : r ≡ StrikeRefused number line) where
+  module _ (number line : ℕ) (e : r ≡ Refused number line) where
     why : (parse input ≡ refusedBy number line) ⊎ ((t : Table) × (parse input ≡ returned t) × (number ≡ shortOutput) × (length out < length (struckText input t)))
-    why = elim (strike-refused input out number line (sym a ∙ ap linesAnswer e)) [
+    why = elim (strike-refused input out number line (sym a ∙ ap countAnswer e)) [
       | inl p ↦ inl p
       | inr w ↦ let n = no-room (struckText input (w .0)) out number (w .2) in inr (w .0, w .1, n .0, n .1)
     ]
 
     -- A refusal writes nothing.
     unchanged : after ≡ out
-    unchanged = o ∙ strike-left input out number line (sym a ∙ ap linesAnswer e)
+    unchanged = o ∙ strike-left input out number line (sym a ∙ ap countAnswer e)
 
     -- A text's own refusals have smaller numbers.
     pub strike-short : number ≡ shortOutput → Prints (struckPrinted input (parse input)) out after 0

@@ -6,7 +6,7 @@ use Rattle.timed.proofs.timed_join.Statement.{statement}
 use Rattle.timed.proofs.timed_join.Tie as tie
 
 returns : tie.Need-returns
-returns c = let d = c .before .before .before .join .ensures in (c .lines-number .ensures ∙ ap packed (d .0), d .1)
+returns c = let d = c .before .before .before .join .ensures in (c .packed-count .ensures ∙ ap packed (d .0), d .1)
 
 pub timed-join-spec : {M : Type 1} → statement M
 timed-join-spec = tie.close (tie.spec (λ c κs. search needs) (λ c κs. search needs) (λ c. search needs) returns)
