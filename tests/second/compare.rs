@@ -1,5 +1,6 @@
 //! The comparison of the proved programs and library with the second implementation, on seeded texts.
 
+use crate::added;
 use crate::cases::{case, Case};
 use crate::cover;
 use crate::differences::Difference;
@@ -20,6 +21,10 @@ use std::thread;
 const BATCH: u64 = 100;
 /// Every so many texts, and of each long one, the programs get their input in two pieces.
 const IN_PIECES: u64 = 50;
+/// Accepted texts of so many rows or fewer, among them all tiny tables, are cut at every row.
+const FEW_ROWS: usize = 12;
+/// Every so many texts one with more rows is cut at every row too: with each row `answers` takes longer.
+const LARGER_CUT: u64 = 20;
 /// How many bytes beyond those needed most of the longer buffers for List have at most.
 const MOST_SPARE: u64 = 48;
 /// Every so many texts List gets a buffer for any table's list.
@@ -27,13 +32,15 @@ const LARGEST_BUFFER: u64 = 16;
 /// The most bytes that List writes.
 const LIST_BYTES: u64 = 38_400;
 
-/// How many texts there were of each sort.
+/// How many texts there were of each sort, and how many cuts of those that were cut.
 #[derive(Clone, Copy, Default)]
 pub struct Tally {
     pub accepted: u64,
     pub refused: u64,
     pub tiny: u64,
     pub long: u64,
+    pub cut: u64,
+    pub cuts: u64,
 }
 
 /// Compares so many texts of the seed with the programs in `binaries`, on all processors. Gives the tally, or tells of the
@@ -88,13 +95,16 @@ fn locked<T>(lock: &Mutex<T>) -> MutexGuard<'_, T> {
 impl Tally {
     /// Counts the cases.
     fn add(&mut self, cases: &[(u64, Case)]) {
-        for (_, case) in cases {
+        for (number, case) in cases {
             match read(&case.text) {
                 Ok(_) => self.accepted += 1,
                 Err(_) => self.refused += 1,
             }
             self.tiny += u64::from(case.tiny);
             self.long += u64::from(is_long(&case.text));
+            let cuts = cuts(*number, &case.text).len() as u64;
+            self.cut += u64::from(cuts > 0);
+            self.cuts += cuts;
         }
     }
 }
@@ -102,6 +112,14 @@ impl Tally {
 /// Whether the text is about as long as the longest input, or longer.
 fn is_long(text: &[u8]) -> bool {
     text.len() >= MOST_INPUT - 1
+}
+
+/// The cuts of the numbered text; none if it is refused, or not one of those that are cut.
+pub fn cuts(number: u64, text: &[u8]) -> Vec<&[u8]> {
+    match read(text) {
+        Ok(table) if table.rows.len() <= FEW_ROWS || number % LARGER_CUT == 0 => added::cuts(text),
+        _ => Vec::new(),
+    }
 }
 
 /// Compares everything on the numbered cases.
@@ -114,6 +132,7 @@ fn compare_batch(programs: &Programs, cases: &[(u64, Case)]) -> Result<(), Diffe
     }
     check_letters(programs, cases, &answers)?;
     check_prefixes(cases, &answers)?;
+    check_added(programs, cases, &answers)?;
     check_promises(programs, cases, &answers)
 }
 
@@ -249,6 +268,35 @@ fn check_prefixes(cases: &[(u64, Case)], answers: &[Answers]) -> Result<(), Diff
                     number: *number,
                     told,
                 }
+            })?;
+        }
+    }
+    Ok(())
+}
+
+/// Compares what `answers` prints of the cuts of the texts, and holds the answers to each cut against those to the next, the last
+/// against those to the text.
+fn check_added(
+    programs: &Programs,
+    cases: &[(u64, Case)],
+    answers: &[Answers],
+) -> Result<(), Difference> {
+    for ((number, case), whole) in cases.iter().zip(answers) {
+        let questions = Questions {
+            probes: case.questions.probes.clone(),
+            ..Questions::default()
+        };
+        let cuts: Vec<(u64, Case)> = cuts(*number, &case.text)
+            .into_iter()
+            .map(|cut| (*number, Case::of_text(cut, &questions)))
+            .collect();
+        let cut_answers =
+            compare_answers(programs, &cuts).map_err(|difference| difference.of("cut"))?;
+        let next_answers = cut_answers.iter().skip(1).chain([whole]);
+        for (rows, (before, after)) in cut_answers.iter().zip(next_answers).enumerate() {
+            added::check(rows, &questions.probes, before, after).map_err(|told| Difference {
+                number: *number,
+                told,
             })?;
         }
     }

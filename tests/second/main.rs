@@ -4,6 +4,7 @@
 //! second compare SEED COUNT BINARIES        compares the programs in a directory, and the static library, on seeded texts
 //! second write SEED NUMBER TEXT QUESTIONS   writes one of these texts and its questions to files
 
+mod added;
 mod calls;
 mod cases;
 mod chains;
@@ -32,6 +33,7 @@ mod reader;
 mod relations;
 mod rooms;
 mod shapes;
+mod shared;
 mod sides;
 mod table;
 #[cfg(test)]
@@ -73,6 +75,10 @@ fn run(words: &[&str]) -> Result<(), String> {
             println!(
                 "{} accepted, {} refused; {} tiny tables with every probe, {} texts of about 16 KiB or more",
                 tally.accepted, tally.refused, tally.tiny, tally.long
+            );
+            println!(
+                "{} texts cut at every row, {} cuts in all",
+                tally.cut, tally.cuts
             );
             println!("the same on all {count} texts");
             Ok(())

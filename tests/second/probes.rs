@@ -5,9 +5,9 @@ use crate::frames::digits;
 use crate::random::Random;
 use crate::reader::decode;
 use crate::relations::above;
-use crate::table::{Packet, Table, FIELDS, WIDTHS};
+use crate::table::{Packet, Selector, Table, FIELDS, WIDTHS};
 
-/// How many probes are tried on a text.
+/// How many probes near rows are tried on a text.
 const PROBES: usize = 8;
 /// How many bytes a probe's digits say.
 const PROBE_BYTES: usize = 16;
@@ -111,10 +111,15 @@ fn any_entity(random: &mut Random, table: &Table) -> u8 {
     }
 }
 
+/// A packet at a bound of each of the selector's ranges.
+pub fn corner(random: &mut Random, selector: &Selector) -> Packet {
+    selector.map(|range| random.pick(&[range.low, range.high]))
+}
+
 /// A corner of the row's selector, or a packet that differs from one in a field: just outside, or at another row's bound.
 fn packet(random: &mut Random, table: &Table, row: usize) -> Packet {
     let selector = &table.rows[row].selector;
-    let mut packet = selector.map(|range| random.pick(&[range.low, range.high]));
+    let mut packet = corner(random, selector);
     if random.chance(60) {
         let field = random.below(FIELDS);
         let range = selector[field];

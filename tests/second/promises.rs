@@ -272,7 +272,7 @@ pub fn bytes(digits: &[u8]) -> Vec<u8> {
 }
 
 /// The rows listed as dead.
-fn dead_rows(list: &[u8]) -> Vec<usize> {
+pub fn dead_rows(list: &[u8]) -> Vec<usize> {
     list.split(|&c| c == b'\n')
         .map(bytes)
         .filter(|entry| entry.get(1) == Some(&DEAD))

@@ -4,6 +4,7 @@ use crate::couples::{couples, Couple};
 use crate::frames::text;
 use crate::probes::{probes, Probe};
 use crate::random::Random;
+use crate::shared::shared;
 use crate::sides::{sides, Side};
 use crate::table::Table;
 
@@ -43,11 +44,13 @@ impl Questions {
 
 /// Seeded questions about the table.
 pub fn questions(random: &mut Random, table: &Table) -> Questions {
-    Questions {
+    let mut questions = Questions {
         probes: probes(random, table),
         couples: couples(random, table),
         sides: sides(random, table),
-    }
+    };
+    questions.probes.extend(shared(random, table));
+    questions
 }
 
 #[cfg(test)]

@@ -1,20 +1,26 @@
 //! Document 01's table T and its edges, the examples of the kinds, the edges of Join and Prefixes, and demand 3 on seeded tables;
 //! and all 256 bytes as digits, read by the static library.
 
+use crate::added;
 use crate::calls::{self, Reading};
 use crate::cases::case;
+use crate::compare;
 use crate::couples::Couple;
+use crate::draft::Scale;
 use crate::frames::{lines, text};
 use crate::kinds::{list, riders, rides};
 use crate::library;
 use crate::prefixes::PREFIX_BYTES;
 use crate::printed;
+use crate::probes::Probe;
 use crate::questions::Questions;
 use crate::random::Random;
 use crate::reader::{decode, read};
-use crate::relations::{at_least, same_group};
+use crate::relations::{above, at_least, ends_above, in_selector, overlap, same_group};
+use crate::shapes::table;
+use crate::shared::shared;
 use crate::sides::Side;
-use crate::table::{Coefficients, Packet, Refusal, Table, FIELDS};
+use crate::table::{Coefficients, Packet, Refusal, Row, Table, FIELDS};
 use std::cmp::Ordering::{self, Equal, Greater, Less};
 use std::collections::BTreeSet;
 use std::path::Path;
@@ -473,6 +479,26 @@ fn executed_examples() {
 }
 
 #[test]
+fn stored_seasons_grow_at_the_end() {
+    let stored = |name: &str| std::fs::read(format!("crates/answers/data/{name}")).unwrap();
+    let questions = Questions::read(&stored("season_probes")).unwrap();
+    let texts = ["season_no_rows", "season_old_rows", "season_added_rows"].map(stored);
+    for (pair, rows) in texts.windows(2).zip([0, 4]) {
+        assert!(pair[1].starts_with(&pair[0]));
+        assert_eq!(read(&pair[0]).unwrap().rows.len(), rows);
+        let [before, after] =
+            [&pair[0], &pair[1]].map(|text| printed::answers("text", text, &questions));
+        let checked = added::check(rows, &questions.probes, &before, &after);
+        assert_eq!(checked, Ok(()));
+    }
+    assert_eq!(
+        texts[1..],
+        ["season", "season-extended"]
+            .map(|name| std::fs::read(format!("examples/{name}.table")).unwrap())
+    );
+}
+
+#[test]
 fn seeded_texts_have_every_kind_and_refusal() {
     let mut kinds = BTreeSet::new();
     let mut refusals = BTreeSet::new();
@@ -596,6 +622,78 @@ fn seeded_sides_have_every_room_and_refusal() {
     }
     assert!(no_rows.contains(&(64, false)) && no_rows.contains(&(255, false)));
     assert!(no_rows.iter().any(|&(_, past_the_last)| past_the_last));
+}
+
+#[test]
+fn seeded_cuts_are_read_as_beginnings_of_the_table() {
+    let mut sizes = BTreeSet::new();
+    for number in 0..1000 {
+        let text = case(1, number).text;
+        let table = read(&text).unwrap_or_default();
+        let cuts = compare::cuts(number, &text);
+        sizes.insert(cuts.len());
+        for (rows, cut) in cuts.into_iter().enumerate() {
+            let mut shorter = table.clone();
+            shorter.rows.truncate(rows);
+            shorter.row_places.truncate(rows);
+            assert_eq!(read(cut), Ok(shorter));
+        }
+    }
+    assert!((0..=12).chain([64]).all(|rows| sizes.contains(&rows)));
+}
+
+#[test]
+fn seeded_cuts_are_followed_by_rows_that_match_as_well() {
+    let (mut dead, mut overlapped, mut witnesses, mut won) = (0, 0, 0, 0);
+    for number in 0..1000 {
+        let case = case(1, number);
+        let table = read(&case.text).unwrap_or_default();
+        for (rows, cut) in compare::cuts(number, &case.text).into_iter().enumerate() {
+            let reading = Reading::of(cut);
+            let added = &table.rows[rows];
+            for (row, old) in table.rows[..rows].iter().enumerate() {
+                let witness = reading.witness(row).unwrap();
+                dead += usize::from(witness.is_none());
+                if same_group(added, old) && ends_above(&table, added, old) {
+                    overlapped += usize::from(overlap(&added.selector, &old.selector));
+                    let taken = witness.is_some_and(|packet| in_selector(&packet, &added.selector));
+                    witnesses += usize::from(taken);
+                }
+            }
+            let had_winner = |probe: &&Probe| matches!(reading.winner(probe), Ok(Some(_)));
+            let probes = case.questions.probes.iter().filter(had_winner);
+            won += probes.filter(|probe| matches(&table, added, probe)).count();
+        }
+    }
+    assert!(dead > 1000);
+    assert!(overlapped > 1000);
+    assert!(witnesses > 500);
+    assert!(won > 2000);
+}
+
+#[test]
+fn two_rows_match_each_shared_probe() {
+    let random = &mut Random::new(7);
+    let mut probes = 0;
+    for _ in 0..100 {
+        let table = table(random, Scale::Usual);
+        for probe in shared(random, &table) {
+            let named = usize::from(probe.row);
+            let (row, later) = (&table.rows[named], &table.rows[named + 1..]);
+            assert!(matches(&table, row, &probe));
+            assert!(later.iter().any(|row| matches(&table, row, &probe)));
+            probes += 1;
+        }
+    }
+    assert!(probes > 400);
+}
+
+/// Whether the row matches the probe in the group of the row that the probe names.
+fn matches(table: &Table, row: &Row, probe: &Probe) -> bool {
+    same_group(row, &table.rows[usize::from(probe.row)])
+        && above(table, row.source, probe.a)
+        && above(table, row.destination, probe.b)
+        && in_selector(&probe.packet, &row.selector)
 }
 
 #[test]

@@ -7,7 +7,7 @@ use mathlib.Core.List.{List, [], _∷_, _++_}
 use lib.ListN.{length, drop}
 use Rattle.hex.specs.Lines.{isLine, bytesOf}
 use Rattle.hex.specs.Letters.{InCapitals}
-use Rattle.policy.specs.Model.{Coefficients, Selector, Table, withRows, rowAt, parentOf}
+use Rattle.policy.specs.Model.{Coefficients, Selector, Table, extended, rowAt, parentOf}
 use Rattle.policy.specs.Wellformed.{Ordered}
 use Rattle.base.specs.Answers.{returned, refusedBy}
 use Rattle.base.specs.Bounds.{LeastAbove}
@@ -47,7 +47,7 @@ pub record JoinedRows (text : List ℕ) (t : Table) (i j : ℕ) : Type 0 where
   pub least : LeastAbove (RowAbove (parentOf t)) (rowAt t i) (rowAt t j) (joinedRow i j t)
   -- it keeps the table's rules: the text with the line and a line feed is accepted, if it has less than 64 rows
   pub added : length (t .rows) < 64
-      → parse (text ++ (joinedLine i j t ++ (10 ∷ []))) ≡ returned (withRows (t .rows ++ (joinedRow i j t ∷ [])) t)
+      → parse (text ++ (joinedLine i j t ++ (10 ∷ []))) ≡ returned (extended (joinedRow i j t ∷ []) t)
 
 -- Of an accepted text:
 pub record JoinPromise (text : List ℕ) (t : Table) : Type 0 where

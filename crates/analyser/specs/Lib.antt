@@ -5,4 +5,5 @@ pub mod RelationPromises
 pub mod Promises
 pub mod JoinPromises
 pub mod PrefixPromises
+pub mod AddedRowPromises
 pub mod Examples

@@ -1,5 +1,5 @@
 -- Demands 1 to 3, and document 02's request [1], on the calls, for every text. Numbers of document 01 stand here as it prints them. (Demand 2 on
--- relations is in RelationPromises, request [2] in JoinPromises.)
+-- relations is in RelationPromises, the other requests in JoinPromises, PrefixPromises and AddedRowPromises.)
 -- Assumes nothing.
 use Prim.Native.Nat.{ℕ, _+_, _-_, _*_, _≤_, _<_}
 use mathlib.Core.Path.{_≡_}

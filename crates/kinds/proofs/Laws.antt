@@ -14,3 +14,4 @@ pub mod Few
 pub mod Apart
 pub mod Splits
 pub mod Alike
+pub mod Extended

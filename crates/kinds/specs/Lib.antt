@@ -5,4 +5,5 @@ pub mod Tests
 pub mod Seen
 pub mod Kinds
 pub mod Entries
+pub mod Extended
 pub mod Examples

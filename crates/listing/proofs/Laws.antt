@@ -2,3 +2,4 @@
 pub mod Numbers
 pub mod Puts
 pub mod Tables
+pub mod Places

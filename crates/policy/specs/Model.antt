@@ -1,7 +1,7 @@
 -- Document 01, "The table text": what a table holds. Lists have no capacity: nothing here says how many fields, coefficients, entities or rows there are.
 -- Assumes nothing.
 use Prim.Native.Nat.{ℕ, _+_}
-use mathlib.Core.List.{List, [], map}
+use mathlib.Core.List.{List, [], _++_, map}
 use lib.ListN.{length, getD}
 
 -- The parent of a root: FF.
@@ -59,6 +59,10 @@ pub record Table : Type 0 where
 abbrev pub withRows : List Row → Table → Table
 withRows rows t =
     record { entities = t .entities; caps = t .caps; floor = t .floor; filters = t .filters; rows = rows }
+
+-- The table with these rows after its own.
+abbrev pub extended : List Row → Table → Table
+extended rows t = withRows (t .rows ++ rows) t
 
 -- The lines before the rows: those of the entities, the caps, the floor (0 while it has not been read, 1 then) and the filters.
 abbrev pub linesBefore : ℕ → Table → ℕ

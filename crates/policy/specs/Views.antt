@@ -6,7 +6,7 @@ use mathlib.Core.List.{List, [], _∷_, _++_, map}
 use lib.ListN.{getD, take, drop}
 use Rattle.base.specs.Lists.{tabulate}
 use Rattle.policy.specs.Limits.{mostEntities, technologies, mostFilters, mostRows, fieldCount, headCount}
-use Rattle.policy.specs.Model.{Entity, Coefficients, Range, Selector, Packet, Filter, Row, Table, noParent, withRows}
+use Rattle.policy.specs.Model.{Entity, Coefficients, Range, Selector, Packet, Filter, Row, Table, noParent, extended}
 use Rattle.policy.specs.declared.number.Number.{Number as NumberStruct}
 use Rattle.policy.specs.declared.selector.Range.{Range as RangeStruct}
 use Rattle.policy.specs.declared.selector.Selector.{Selector as SelectorStruct}
@@ -166,4 +166,4 @@ withFilter f t =
     record { entities = t .entities; caps = t .caps; floor = t .floor; filters = t .filters ++ (f ∷ []); rows = t .rows }
 
 abbrev pub withRow : Row → Table → Table
-withRow r t = withRows (t .rows ++ (r ∷ [])) t
+withRow r t = extended (r ∷ []) t

@@ -2,3 +2,4 @@
 pub mod Covers
 pub mod Verdicts
 pub mod Tables
+pub mod Extended

@@ -8,10 +8,10 @@ use Prim.Native.Nat.{ℕ, _+_, _-_, _≤_, _<_}
 use native.Mathlib.Decide.{decLt}
 use native.Mathlib.Omega.{arith}
 use lib.ListN.{length, getD}
-use borrow.Author.Tests.{lt-ltb, le-ltb}
+use borrow.Author.Tests.{lt-ltb, le-ltb, ltb-true}
 use Rattle.base.specs.Checks.{Check}
 use Rattle.base.specs.Answers.{returned, refusedBy, given}
-use Rattle.base.proofs.Laws.Answers.{Broken, given-kept, given-broken}
+use Rattle.base.proofs.Laws.Answers.{Broken, given-kept, given-broken, kept-or-broken}
 use Rattle.policy.specs.Model.{Packet, Table, rowAt, linesBefore}
 use Rattle.policy.specs.Wellformed.{IsEntity}
 use Rattle.relations.specs.Groups.{winner}
@@ -22,7 +22,7 @@ use Rattle.reader.specs.Lines.{linesOf}
 use Rattle.reader.specs.States.{parse}
 use Rattle.reader.proofs.Laws.Rows.{RowLine, accepted-lines, accepted-row}
 use Rattle.verdicts.specs.Verdicts.{verdictOn}
-use Rattle.analyser.specs.Calls.{hasRow, hasEntity, linePart, witnessOf, winningRow, nobodyWins, outcomeOf, winnerOf}
+use Rattle.analyser.specs.Calls.{hasRow, hasEntity, linePart, witnessOf, RowOrNobody, winningRow, nobodyWins, outcomeOf, winnerOf}
 
 module _ (text : List ℕ) (t : Table) (e : parse text ≡ returned t) (k : ℕ) where
   module _ (h : k < length (t .rows)) where
@@ -52,6 +52,14 @@ module _ (text : List ℕ) (t : Table) (e : parse text ≡ returned t) (k : ℕ)
 
     pub winner-broken : (n : ℕ) → Broken asks n → winnerOf text k a b p ≡ refusedBy n 0
     winner-broken n h = winner-asks ∙ given-broken (outcomeOf (winner t k a b p)) asks n h
+
+    -- Who is told a winner, or nobody, named a row and two entities.
+    pub winner-told : (o : RowOrNobody) → winnerOf text k a b p ≡ returned o → (k < length (t .rows)) × IsEntity t a × IsEntity t b
+    winner-told o w = elim (kept-or-broken asks) [
+      | inl h ↦ (ltb-true _ _ (h .0), ltb-true _ _ (h .1 .0), ltb-true _ _ (h .1 .1 .0))
+      | inr h ↦ let r = winner-broken (h .0) (h .1) in
+          let z : _≡_ {A = ℕ} 0 1 = cc in absurd (omega arith)
+    ]
 
     pub winner-no-row : length (t .rows) ≤ k → winnerOf text k a b p ≡ refusedBy noSuchRow 0
     winner-no-row h = winner-broken noSuchRow (inl (le-ltb _ _ h, refl))

@@ -2,6 +2,7 @@
 --   Leads: each frame is such, by a statement of what was read before it and of the frame, and they lead from p to q
 --   InPlace, Taken: a frame has its place; it is not refused
 --   places-lead, rules-lead: the frames of a table with lawful counts have their places; those of a well-formed table are not refused
+--   one-table: no frames are those of two tables
 -- Assumes nothing.
 use mathlib.Core.Path.{_≡_, refl, ap, sym, _∙_}
 use mathlib.Core.Bool.{Bool, true, false}
@@ -35,6 +36,11 @@ module _ (May : Progress → Frame → Type 0) where
   leads-append : (p m q : Progress) (fs gs : List Frame) → Leads p fs m → Leads m gs q → Leads p (fs ++ gs) q
   leads-append p m q [] gs h k = rw h k
   leads-append p m q (f ∷ fs) gs h k = (h .0, leads-append (grown p f) m q fs gs (h .1) k)
+
+  -- Frames lead to one end.
+  leads-once : (p q r : Progress) (fs : List Frame) → Leads p fs q → Leads p fs r → q ≡ r
+  leads-once p q r [] h k = sym h ∙ k
+  leads-once p q r (f ∷ fs) h k = leads-once (grown p f) q r fs (h .1) (k .1)
 
   -- Things that are added one by one, each by its frame: `place` is what is read when some of them are done.
   module _ {A : Type 0} (frame : A → Frame) (place : List A → Progress) (all : List A)
@@ -182,3 +188,26 @@ module _ (t : Table) (w : Wellformed t) where
 
   pub rules-lead : Leads Taken nothing (framesOf t) (record { table = t; floored = 1 })
   rules-lead = leads-table Taken t rules
+
+-- ---- frames of one table
+
+-- Nothing is asked.
+abbrev Anyhow : Progress → Frame → Type 0
+Anyhow p f = Unit {0}
+
+leads-anyhow : (t : Table) → Leads Anyhow nothing (framesOf t) (record { table = t; floored = 1 })
+leads-anyhow t =
+    leads-table Anyhow t
+    (record {
+      entity = λ done e rest q. tt;
+      cap = λ done c rest q. tt;
+      floor = tt;
+      filter = λ done f rest q. tt;
+      row = λ done r rest q. tt;
+    })
+
+pub one-table : (t u : Table) → framesOf t ≡ framesOf u → t ≡ u
+one-table t u e =
+    ap (λ p. p .table)
+    (leads-once Anyhow nothing (record { table = t; floored = 1 }) (record { table = u; floored = 1 }) (framesOf t)
+    (leads-anyhow t) (rw e (leads-anyhow u)))

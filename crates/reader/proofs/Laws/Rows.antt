@@ -126,14 +126,14 @@ module _ (text : List ℕ) (t : Table) (e : parse text ≡ returned t) where
   -- Each line before the rows is an entity's, a cap's, the floor's or a filter's.
   pub accepted-lines : length (linesOf text) ≡ linesBefore 1 t + length (t .rows)
   accepted-lines =
-      sym (length-map (linesOf text) lineFrame) ∙ ap length (accepted-exactly text t .0 e .frames) ∙ frames-counted t
+      sym (length-map (linesOf text) lineFrame) ∙ ap length (accepted-exactly text t .0 e .says .frames) ∙ frames-counted t
 
   pub accepted-rows : Accepted text t
   accepted-rows =
       let k = accepted-exactly text t .0 e in
       let n : length (framesOf (withRows [] t)) ≡ length (linesOf text) - length (t .rows) = omega (arith, frames-counted (withRows [] t), accepted-lines) in
-      let x = rw n at (split t (k .well .row) (framesOf (withRows [] t)) (linesOf text) (k .digits) (k .frames ∙ rows-apart t [] (t .rows))) in
-      record { ended = ap length (k .ended); others = x .0; digits = x .1; rows = x .2 }
+      let x = rw n at (split t (k .well .row) (framesOf (withRows [] t)) (linesOf text) (k .says .digits) (k .says .frames ∙ rows-apart t [] (t .rows))) in
+      record { ended = ap length (k .says .ended); others = x .0; digits = x .1; rows = x .2 }
 
   -- The row at k is the line at k among the last lines, as many as there are rows.
   pub accepted-row : (k : ℕ) → k < length (t .rows)

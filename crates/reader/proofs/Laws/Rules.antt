@@ -1,6 +1,5 @@
 -- Demand 1, "Every text that keeps the table rules of document 01 is accepted", and no other:
 --   accepted-exactly: the reader accepts a text as a table exactly when the text keeps the rules and says the table
---   one-table: no text says two tables
 --   refused-otherwise: a text that says no table is refused
 -- Assumes nothing.
 use mathlib.Core.Path.{_≡_, refl, ap, sym, _∙_}
@@ -104,9 +103,7 @@ accepted-keeps text t e =
     let x : Ending s (restOf text) (returned t) = rw e at (ending s (restOf text)) in
     let told = run-told (linesOf text) 0 _ nothing (record { table = t; floored = 1 }) growing-nothing (x .2) in
     record {
-      ended = length-none (restOf text) (x .0);
-      digits = told .digits;
-      frames = told .frames;
+      says = record { ended = length-none (restOf text) (x .0); digits = told .digits; frames = told .frames };
       well = accepted-wellformed text t e;
     }
 
@@ -124,16 +121,13 @@ keeps-accepted : (text : List ℕ) (t : Table) → KeepsRules text t → parse t
 unfolding parse finish
 keeps-accepted text t k =
     let p : Progress = record { table = t; floored = 1 } in
-    let h : Leads Taken nothing (map lineFrame (linesOf text)) p = rw (k .frames) (rules-lead t (k .well)) in
-    rw (run-leads (linesOf text) 0 nothing p (k .digits) h .1, k .ended)
+    let h : Leads Taken nothing (map lineFrame (linesOf text)) p = rw (k .says .frames) (rules-lead t (k .well)) in
+    rw (run-leads (linesOf text) 0 nothing p (k .says .digits) h .1, k .says .ended)
 
 -- ---- the theorem
 
 pub accepted-exactly : (text : List ℕ) (t : Table) → (parse text ≡ returned t) ↔ KeepsRules text t
 accepted-exactly text t = (accepted-keeps text t, keeps-accepted text t)
-
-pub one-table : (text : List ℕ) (t u : Table) → KeepsRules text t → KeepsRules text u → t ≡ u
-one-table text t u h k = cc (keeps-accepted text t h, keeps-accepted text u k)
 
 pub refused-otherwise : (text : List ℕ) → ((t : Table) → KeepsRules text t → ⊥)
     → (number : ℕ) × (line : ℕ) × (parse text ≡ refusedBy number line)

@@ -5,8 +5,9 @@
 --   lines-no-feed, rest-no-feed: no line feed is in a line of a text, nor in what stands after them
 --   line-clean: a line of digits is such a line
 --   accepted-text-other-rows, accepted-text-more-rows: other rows in place of an accepted text's own, and rows after it
+--   accepted-text-extended: whatever is accepted of an accepted text and a run of row lines is its table with those rows
 -- Assumes nothing.
-use mathlib.Core.Path.{_≡_, refl, ap, sym, _∙_}
+use mathlib.Core.Path.{_≡_, refl, ap, sym, subst, _∙_}
 use mathlib.Core.Logic.{inl, inr}
 use mathlib.Core.Bool.{true, false≢true, and-eq-true-iff}
 use mathlib.Core.List.{List, [], _∷_, _++_, map, map-append, append-nil, append-assoc, List·Memᴰ, List·Memᴰ·head, List·Memᴰ·tail, List·Memᴰ·not-nil, List·Memᴰ·cases-cons, List·Memᴰ·append-cases}
@@ -21,14 +22,16 @@ use Rattle.hex.specs.Digits.{isDigit}
 use Rattle.hex.specs.Lines.{allDigits, isLine}
 use Rattle.hex.proofs.Laws.Lines.{line-digits, feed-no-digit}
 use Rattle.policy.specs.Limits.{mostRows}
-use Rattle.policy.specs.Model.{Row, Table, withRows, noRow, parentsOf}
+use Rattle.policy.specs.Model.{Row, Table, withRows, extended, noRow, parentsOf}
 use Rattle.policy.specs.Wellformed.{RowRule, Wellformed}
 use Rattle.policy.proofs.Laws.Changed.{wellformed-rows}
 use Rattle.base.proofs.Laws.Each.{each-append}
 use Rattle.reader.specs.Lines.{lineFeed, linesFrom, restFrom, linesOf, restOf, textOf}
 use Rattle.reader.specs.States.{parse}
-use Rattle.reader.specs.Rules.{framesOf}
+use Rattle.reader.specs.Frames.{Frame, aRow}
+use Rattle.reader.specs.Rules.{HasFrames, RowRun, framesOf}
 use Rattle.reader.proofs.Laws.Wellformed.{accepted-wellformed}
+use Rattle.reader.proofs.Laws.Leads.{one-table}
 use Rattle.reader.proofs.Laws.Rules.{lineFrame, Digits, accepted-exactly}
 use Rattle.reader.proofs.Laws.Rows.{RowLines, rows-counted, rows-said, rows-digits, rows-kept, rows-apart, accepted-rows}
 
@@ -151,42 +154,67 @@ lines-clean-digits : (ls : List (List ℕ)) → Digits ls → AllNoFeed ls
 lines-clean-digits [] d = tt
 lines-clean-digits (l ∷ ls) d = (line-clean l (d l (List·Memᴰ·head refl)), lines-clean-digits ls (λ m k. d m (List·Memᴰ·tail k)))
 
+-- ---- the frames of a text
+
+-- The text of lines of digits has their frames.
+frames-written : (ls : List (List ℕ)) → Digits ls → HasFrames (textOf ls) (map lineFrame ls)
+frames-written ls d =
+    let clean = lines-clean-digits ls d in
+    let lines = lines-written ls clean in
+    record { ended = rest-written ls clean; digits = rw lines d; frames = ap (map lineFrame) lines }
+
+-- The frames of a text that follows another follow those of the other.
+frames-append : (a b : List ℕ) (fs gs : List Frame) → HasFrames a fs → HasFrames b gs → HasFrames (a ++ b) (fs ++ gs)
+frames-append a b fs gs h k =
+    subst (λ text. HasFrames text (fs ++ gs)) (text-append (linesOf a) (linesOf b) ∙ (λ i. whole a h i ++ whole b k i))
+    (subst (HasFrames (textOf (linesOf a ++ linesOf b))) (map-append lineFrame (linesOf a) (linesOf b) ∙ cc (h .frames, k .frames))
+    (frames-written (linesOf a ++ linesOf b) digits))
+  where
+    whole : (text : List ℕ) {fs : List Frame} → HasFrames text fs → textOf (linesOf text) ≡ text
+    whole text h = rw (h .ended, append-nil) at (text-cut text)
+
+    digits : Digits (linesOf a ++ linesOf b)
+    digits l m = elim (List·Memᴰ·append-cases (linesOf a) m) [ inl x ↦ h .digits l x | inr x ↦ k .digits l x ]
+
 -- ---- accepted texts
 
--- Lines that say the table with some rows, and row lines after them, at most 64 in all: their text is the table with all those rows.
+-- A text that says the table with some rows, and row lines after it, at most 64 in all: together they are the table with all those rows.
 module _ (t : Table) (w : Wellformed t) (done : List Row) (kept : (k : ℕ) → k < length done → RowRule t (getD done k noRow))
-    (a ls : List (List ℕ)) (rs : List Row) (d : Digits a) (f : map lineFrame a ≡ framesOf (withRows done t))
-    (b : length done + length ls ≤ mostRows) (h : RowLines t ls rs) where
-  digits : Digits (a ++ ls)
-  digits l m = elim (List·Memᴰ·append-cases a m) [ inl k ↦ d l k | inr k ↦ rows-digits (parentsOf t) ls rs h l k ]
-
-  parse-rows : parse (textOf (a ++ ls)) ≡ returned (withRows (done ++ rs) t)
+    (text : List ℕ) (f : HasFrames text (framesOf (withRows done t)))
+    (ls : List (List ℕ)) (rs : List Row) (b : length done + length ls ≤ mostRows) (h : RowLines t ls rs) where
+  parse-rows : parse (text ++ textOf ls) ≡ returned (withRows (done ++ rs) t)
   parse-rows =
-      let clean = lines-clean-digits (a ++ ls) digits in
-      let lines = lines-written (a ++ ls) clean in
+      let run : RowRun (textOf ls) rs = subst (HasFrames (textOf ls)) (rows-said (parentsOf t) ls rs h) (frames-written ls (rows-digits (parentsOf t) ls rs h)) in
       let long = rows-counted (parentsOf t) ls rs h in
       let few : length (done ++ rs) ≤ mostRows = rw length-append (omega arith) in
-      accepted-exactly (textOf (a ++ ls)) (withRows (done ++ rs) t) .1
+      accepted-exactly (text ++ textOf ls) (withRows (done ++ rs) t) .1
       (record {
-        ended = rest-written (a ++ ls) clean;
-        digits = rw lines digits;
-        frames = rw lines (map-append lineFrame a ls ∙ cc (f, rows-said (parentsOf t) ls rs h, rows-apart t done rs));
+        says = subst (HasFrames (text ++ textOf ls)) (sym (rows-apart t done rs)) (frames-append text (textOf ls) _ _ f run);
         well = wellformed-rows w (done ++ rs) few (each-append (RowRule t) done rs noRow kept (rows-kept t ls rs h));
       })
 
-module _ (text : List ℕ) (t : Table) (e : parse text ≡ returned t) (ls : List (List ℕ)) (rs : List Row) where
-  -- An accepted text, with other row lines in place of its own, gives the same table with those rows.
-  pub accepted-text-other-rows : length ls ≤ mostRows → RowLines t ls rs
-      → parse (textOf (take (length (linesOf text) - length (t .rows)) (linesOf text) ++ ls)) ≡ returned (withRows rs t)
-  accepted-text-other-rows b h =
-      let a = accepted-rows text t e in
-      parse-rows t (accepted-wellformed text t e) [] (λ k l. absurd (omega arith)) _ ls rs (a .digits) (a .others) (omega arith) h
+module _ (text : List ℕ) (t : Table) (e : parse text ≡ returned t) where
+  module _ (ls : List (List ℕ)) (rs : List Row) where
+    -- An accepted text, with other row lines in place of its own, gives the same table with those rows.
+    pub accepted-text-other-rows : length ls ≤ mostRows → RowLines t ls rs
+        → parse (textOf (take (length (linesOf text) - length (t .rows)) (linesOf text) ++ ls)) ≡ returned (withRows rs t)
+    accepted-text-other-rows b h =
+        let a = accepted-rows text t e in
+        let others = take (length (linesOf text) - length (t .rows)) (linesOf text) in
+        ap parse (text-append others ls)
+        ∙ parse-rows t (accepted-wellformed text t e) [] (λ k l. absurd (omega arith)) (textOf others)
+        (subst (HasFrames (textOf others)) (a .others) (frames-written others (a .digits))) ls rs (omega arith) h
 
-  -- Row lines that follow an accepted text give the rows more.
-  pub accepted-text-more-rows : length (t .rows) + length ls ≤ mostRows → RowLines t ls rs
-      → parse (text ++ textOf ls) ≡ returned (withRows (t .rows ++ rs) t)
-  accepted-text-more-rows b h =
-      let k = accepted-exactly text t .0 e in
-      let whole : textOf (linesOf text) ≡ text = rw (k .ended, append-nil) at (text-cut text) in
-      ap parse (sym (text-append (linesOf text) ls ∙ ap (λ l. l ++ textOf ls) whole))
-      ∙ parse-rows t (k .well) (t .rows) (k .well .row) (linesOf text) ls rs (k .digits) (k .frames) b h
+    -- Row lines that follow an accepted text give the rows more.
+    pub accepted-text-more-rows : length (t .rows) + length ls ≤ mostRows → RowLines t ls rs
+        → parse (text ++ textOf ls) ≡ returned (extended rs t)
+    accepted-text-more-rows b h =
+        let k = accepted-exactly text t .0 e in
+        parse-rows t (k .well) (t .rows) (k .well .row) text (k .says) ls rs b h
+
+  -- What an accepted text and a run of row lines after it give, where they are accepted, is the text's table with those rows more.
+  pub accepted-text-extended : (more : List ℕ) (added : List Row) (u : Table) → RowRun more added → parse (text ++ more) ≡ returned u → u ≡ extended added t
+  accepted-text-extended more added u r f =
+      let both = frames-append text more (framesOf t) (map aRow added) (accepted-exactly text t .0 e .says) r in
+      one-table u (extended added t)
+      (sym (accepted-exactly (text ++ more) u .0 f .says .frames) ∙ both .frames ∙ sym (rows-apart t (t .rows) added))

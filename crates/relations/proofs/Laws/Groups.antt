@@ -143,7 +143,7 @@ module _ (t : Table) (g : Row) (a b : ℕ) (p : Packet) where
         },
       )
 
-  wins-group : (i : ℕ) → SameGroup (rowAt t i) g × Wins t i a b p → winnerFrom (parentOf t) g a b p 0 (t .rows) ≡ Won i
+  pub wins-group : (i : ℕ) → SameGroup (rowAt t i) g × Wins t i a b p → winnerFrom (parentOf t) g a b p 0 (t .rows) ≡ Won i
   wins-group i h =
       let w = h .1 in
       winner-first (parentOf t) g a b p (t .rows) i (record {
