@@ -6,6 +6,7 @@ pub mod Technologies
 pub mod Coefficients
 pub mod Selectors
 pub mod Groups
+pub mod Renumbered
 pub mod Extended
 pub mod Tables
 pub mod Examples

@@ -30,7 +30,7 @@ module _ (t : Table) (added : List Row) where
 
   -- ---- the tests
 
-  -- That of a kind of one row is the same for old rows. (Those of two rows look at nothing else.)
+  -- That of a kind of one row is the same for old rows. (A kind of two rows looks at these two alone, whatever the kind.)
   abbrev Stands : Kind → Type 0
   Stands noKind = Unit {0}
   Stands (alone P b) = (i : ℕ) → i < length (t .rows) → b (seenOf (extended added t)) i ≡ b (seenOf t) i

@@ -1,27 +1,16 @@
 -- Rows added at the end of a table leave its own as they are: each wins the probes that it won and no others, and the winner of a probe stays.
 -- Assumes nothing.
-use Prim.Native.Nat.{ℕ, _≤_, _<_}
+use Prim.Native.Nat.{ℕ, _<_}
 use mathlib.Core.Path.{_≡_, sym, subst}
 use mathlib.Core.Logic.{_↔_}
 use mathlib.Core.List.{List, _++_}
 use native.Mathlib.Omega.{arith}
-use lib.ListN.{length, getD, length-append, List·getD-append}
-use Rattle.policy.specs.Model.{Packet, Row, Table, withRows, extended, noRow, rowAt, parentOf}
-use Rattle.relations.specs.Groups.{SameGroup, Matches, Wins, Dead, winnerFrom}
+use lib.ListN.{length, length-append, List·getD-append}
+use Rattle.policy.specs.Model.{Packet, Row, Table, extended, noRow, rowAt, parentOf}
+use Rattle.relations.specs.Groups.{SameGroup, Wins, Dead, winnerFrom}
 use Rattle.relations.specs.declared.group.Outcome.the-variants.{Won}
 use Rattle.relations.proofs.Laws.Groups.{group-wins, wins-group}
-
--- Whether a row wins a probe goes by it and the rows before it.
-wins-other-rows : (t : Table) (rs : List Row) (i a b : ℕ) (p : Packet) → i < length rs → ((j : ℕ) → j ≤ i → getD rs j noRow ≡ rowAt t j)
-    → Wins t i a b p → Wins (withRows rs t) i a b p
-wins-other-rows t rs i a b p h same w =
-    record {
-      row = h;
-      matches = subst (λ r. Matches (parentOf t) r a b p) (sym (same i (omega arith))) (w .matches);
-      first = λ j l s m.
-          w .first j l (subst (λ r. SameGroup r (rowAt t i)) (same j (omega arith)) (subst (SameGroup (getD rs j noRow)) (same i (omega arith)) s))
-          (subst (λ r. Matches (parentOf t) r a b p) (same j (omega arith)) m);
-    }
+use Rattle.relations.proofs.Laws.Renumbered.{wins-renumbered}
 
 module _ (t : Table) (added : List Row) where
   pub row-extended : (i : ℕ) → i < length (t .rows) → rowAt (extended added t) i ≡ rowAt t i
@@ -29,8 +18,8 @@ module _ (t : Table) (added : List Row) where
 
   pub wins-extended : (i a b : ℕ) (p : Packet) → i < length (t .rows) → Wins t i a b p ↔ Wins (extended added t) i a b p
   wins-extended i a b p h = (
-    wins-other-rows t (t .rows ++ added) i a b p (omega (arith, length-append (t .rows) added)) (λ j l. row-extended j (omega arith)),
-    wins-other-rows (extended added t) (t .rows) i a b p h (λ j l. sym (row-extended j (omega arith))),
+    wins-renumbered t (t .rows ++ added) (λ j. j) i a b p (omega (arith, length-append (t .rows) added)) (λ j l. row-extended j (omega arith)) (λ j l. l),
+    wins-renumbered (extended added t) (t .rows) (λ j. j) i a b p h (λ j l. sym (row-extended j (omega arith))) (λ j l. l),
   )
 
   pub dead-extended : (i : ℕ) → i < length (t .rows) → Dead t i ↔ Dead (extended added t) i

@@ -14,6 +14,7 @@ use Rattle.relations.specs.declared.group.Outcome.{Outcome}
 use Rattle.relations.specs.declared.group.Outcome.the-variants.{Won, Nobody}
 use Rattle.base.proofs.Laws.Decides.{decides-holds}
 use Rattle.relations.proofs.Laws.Groups.{group-sym, group-trans, group-wins, group-nobody}
+use Rattle.relations.proofs.Laws.Renumbered.{wins-renumbered}
 use Rattle.kinds.specs.Tests.{dead}
 use Rattle.striking.specs.Striking.{kept, struck, SameWinner, Struck}
 use Rattle.striking.proofs.Laws.Kept.{kept-rows, kept-row, alive-decides}
@@ -28,17 +29,9 @@ module _ (t : Table) (a b : ℕ) (p : Packet) where
 
   -- A kept row that wins a probe wins it in the struck table.
   wins-struck : (k : ℕ) → k < length (kept t) → Wins t (getD (kept t) k 0) a b p → Wins (struck t) k a b p
-  wins-struck k h o =
-      record {
-        row = omega (arith, length-struck t);
-        matches = subst⁻¹ (λ r. Matches (parentOf t) r a b p) (row-struck t k h) (o .matches);
-        first = λ j l s m.
-            let i : j < length (kept t) = omega arith in
-            o .first (getD (kept t) j 0) (kept-rows t .ascending j k l h)
-            (subst (λ r. SameGroup r (rowAt t (getD (kept t) k 0))) (row-struck t j i)
-            (subst (SameGroup (rowAt (struck t) j)) (row-struck t k h) s))
-            (matches-kept j i m);
-      }
+  wins-struck k h =
+      wins-renumbered t (struck t .rows) (λ j. getD (kept t) j 0) k a b p (omega (arith, length-struck t)) (λ j l. row-struck t j (omega arith))
+      (λ j l. kept-rows t .ascending j k l h)
 
 -- Of a group one row wins a probe.
 wins-once : (t : Table) (i j a b : ℕ) (p : Packet) → SameGroup (rowAt t i) (rowAt t j) → Wins t i a b p → Wins t j a b p → i ≡ j
