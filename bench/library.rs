@@ -55,6 +55,7 @@ pub const CALLS: [Call; 6] = [
 ];
 
 /// A text and the number of its rows.
+#[derive(Clone)]
 pub struct Text {
     pub bytes: Vec<u8>,
     pub rows: usize,

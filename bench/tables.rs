@@ -1,46 +1,65 @@
-//! The tables that are measured.
+//! The tables that are measured, but for those of tests/second/stored.rs, and what they are made of.
 
-use crate::table::{Entity, Filter, Range, Row, Selector, Table, NONE};
+use crate::draft::everything;
+use crate::families::{families, halves};
+use crate::reader::read;
+use crate::table::{Entity, Filter, Range, Row, Selector, Table, FIELDS, NONE};
 
-/// The selector of all packets.
-const FULL: Selector = [
-    range(0, u32::MAX),
-    range(0, u32::MAX),
-    range(0, 0xFFFF),
-    range(0, 0xFFFF),
-    range(0, 0xFF),
-];
-
-const fn range(low: u32, high: u32) -> Range {
+/// The values from low to high.
+fn range(low: u32, high: u32) -> Range {
     Range { low, high }
 }
 
-/// A table of roots with a line of three entities below each, and no filters and rows yet.
-fn roots(count: usize) -> Table {
-    let mut table = Table {
+/// A table of these entities, and no filters and rows yet.
+fn of_entities(entities: Vec<Entity>) -> Table {
+    Table {
+        entities,
         caps: vec![[0xFF; 3]; 6],
         floor: Some([1; 3]),
         ..Table::default()
-    };
-    for root in 0..count {
-        table.entities.push(Entity {
-            parent: NONE,
-            layer: 0,
-            mask: 0x7E,
-        });
-        for (above, layer) in [3, 5, 7].into_iter().enumerate() {
-            table.entities.push(Entity {
-                parent: (4 * root + above) as u8,
-                layer,
-                mask: 0,
-            });
-        }
     }
-    table
+}
+
+/// A root that supports every technology.
+const ROOT: Entity = Entity {
+    parent: NONE,
+    layer: 0,
+    mask: 0x7E,
+};
+
+/// An entity below another.
+fn below(parent: usize, layer: u8) -> Entity {
+    Entity {
+        parent: parent as u8,
+        layer,
+        mask: 0,
+    }
+}
+
+/// A table of roots with a line of three entities below each.
+pub fn roots(count: usize) -> Table {
+    let line = |root: usize| {
+        let first = 4 * root;
+        [
+            ROOT,
+            below(first, 3),
+            below(first + 1, 5),
+            below(first + 2, 7),
+        ]
+    };
+    of_entities((0..count).flat_map(line).collect())
+}
+
+/// A table of two roots, the second of which, the last entity, has nothing below it, and the first so many entities side by side.
+pub fn fan(count: usize) -> Table {
+    let mut entities = vec![below(0, 3); count + 2];
+    entities[0] = ROOT;
+    entities[count + 1] = ROOT;
+    of_entities(entities)
 }
 
 /// A row installed at its source's root.
-fn row(source: usize, destination: usize, selector: Selector) -> Row {
+pub fn row(source: usize, destination: usize, selector: Selector) -> Row {
     Row {
         holder: (source / 4 * 4) as u8,
         source: source as u8,
@@ -64,7 +83,7 @@ pub fn typical(rows: usize) -> Table {
     let nodes = rows / 2;
     let mut table = roots(nodes);
     for f in 0..nodes {
-        let mut selector = FULL;
+        let mut selector = everything();
         selector[0] = network(0x0A00_0000, f);
         selector[3] = range(80, 80);
         let root = (4 * (f * 7 % nodes)) as u8;
@@ -72,7 +91,7 @@ pub fn typical(rows: usize) -> Table {
     }
     for k in 0..rows {
         let (from, to) = (k * 5 % nodes, (k * 11 + 3) % nodes);
-        let mut selector = FULL;
+        let mut selector = everything();
         if k % 3 != 0 {
             selector[0] = network(0x0A00_0000, from);
         }
@@ -105,7 +124,7 @@ pub fn fullest() -> Table {
         let (from, to) = (k % 32, (k + k / 32 + 1) % 32);
         table.rows[k] = Row {
             gateways: gateways(k, 8, 32),
-            ..row(4 * from, 4 * to, FULL)
+            ..row(4 * from, 4 * to, everything())
         };
     }
     table
@@ -115,7 +134,7 @@ pub fn fullest() -> Table {
 /// shares no packet with them. Every chain is followed to its end, and there is none.
 pub fn layers(rows: usize) -> Table {
     let mut table = roots(5);
-    let [mut upper, mut lower] = [FULL; 2];
+    let [mut upper, mut lower] = [everything(); 2];
     upper[3] = range(0x8000, 0xFFFF);
     lower[3] = range(0, 0x7FFF);
     let whole = 3 * rows / 16;
@@ -128,29 +147,45 @@ pub fn layers(rows: usize) -> Table {
     table
 }
 
-/// Worst for the search: boxes that each reach from the last row's low to a different high in every field, and two that split the
-/// last field between them. The last row is dead, and every candidate is tried.
-pub fn nested(rows: usize) -> Table {
-    let steps = [0x10_0000, 0x20_0000, 0x100, 0x200, 2];
-    let mut table = roots(2);
-    for b in 1..=rows as u32 - 3 {
-        table
-            .rows
-            .push(row(0, 4, steps.map(|step| range(0, b * step))));
-    }
-    let [mut lower, mut upper] = [FULL; 2];
-    lower[4] = range(0, 127);
-    upper[4] = range(128, 255);
-    for selector in [lower, upper, FULL] {
-        table.rows.push(row(0, 4, selector));
-    }
+/// Worst for a search in the order of the fields: families of rows that have their own ranges of protocols, and rows that they hide.
+pub fn slabs(rows: usize) -> Table {
+    hiding(rows, families(&everything(), FIELDS - 1, 3 * rows / 16))
+}
+
+/// Worst for walks that begin with each field in turn, of those built by hand: families of rows for each half of the source ports, of
+/// which one has its own ranges of protocols, the other of destination addresses; and rows that they hide.
+pub fn split_slabs(rows: usize) -> Table {
+    let parts = 5 * rows / 64;
+    let regions = halves(&everything(), 2).into_iter().zip([FIELDS - 1, 1]);
+    let boxes = regions.flat_map(|(region, last)| families(&region, last, parts));
+    hiding(rows, boxes.collect())
+}
+
+/// A table of so many rows: these boxes, then rows of all packets whose sources stand side by side, so that none covers another.
+fn hiding(rows: usize, boxes: Vec<Selector>) -> Table {
+    let hidden = rows - boxes.len();
+    let mut table = fan(hidden);
+    let last = hidden + 1;
+    table.rows = boxes
+        .into_iter()
+        .map(|selector| row(0, last, selector))
+        .collect();
+    table.rows.extend((1..=hidden).map(|source| Row {
+        holder: 0,
+        ..row(source, last, everything())
+    }));
     table
+}
+
+/// Worst for kind 19 of the tables that bench/hunt found in four minutes, by the seeds 1 and 2 with chains.
+pub fn chains() -> Table {
+    read(include_bytes!("tables/chains.table")).expect("stored tables are lawful")
 }
 
 /// One row with these sources.
 pub fn sources(low: u32, high: u32) -> Table {
     let mut table = roots(2);
-    let mut selector = FULL;
+    let mut selector = everything();
     selector[0] = range(low, high);
     table.rows.push(row(0, 4, selector));
     table

@@ -1,5 +1,6 @@
 //! Seeded texts, each with the questions to ask of it.
 
+use crate::covered::covered;
 use crate::damage::damaged;
 use crate::draft::Scale;
 use crate::frames::{lines, text};
@@ -8,6 +9,9 @@ use crate::long::long;
 use crate::questions::{questions, Questions};
 use crate::random::Random;
 use crate::shapes::table;
+
+/// Every so many cases the table is one of rows that mostly cover each other.
+pub const COVERED: u64 = 21;
 
 /// A text, the same in another case of its letters, its questions, and whether every probe of it can be tried.
 pub struct Case {
@@ -39,7 +43,11 @@ pub fn case(seed: u64, number: u64) -> Case {
         12..=15 => Scale::Full,
         _ => Scale::Usual,
     };
-    let table = table(random, scale);
+    let table = if number % COVERED == 0 {
+        covered(random, scale)
+    } else {
+        table(random, scale)
+    };
     let lines = lines(&table);
     let text = match random.below(100) {
         _ if tiny => text(&lines),

@@ -6,7 +6,8 @@
 //! group that match are those whose ends are above the row's and whose selector has the packet.
 
 use crate::relations::{above, ends_above, in_selector, intersection, low_corner, same_group};
-use crate::table::{Packet, Range, Selector, Table};
+use crate::table::{Packet, Range, Row, Selector, Table};
+use std::cmp::Reverse;
 
 /// Disjoint selectors that together hold the packets of `whole` outside `taken`.
 fn subtract(whole: &Selector, taken: &Selector) -> Vec<Selector> {
@@ -36,19 +37,38 @@ fn subtract(whole: &Selector, taken: &Selector) -> Vec<Selector> {
     left
 }
 
-/// Disjoint selectors of the packets with which the row wins the probe from its own ends.
-fn unclaimed(table: &Table, row: usize) -> Vec<Selector> {
+/// The earlier rows of the group that match each probe from the row's own ends with a packet of theirs.
+pub fn cover(table: &Table, row: usize) -> impl Iterator<Item = &Row> {
     let own = &table.rows[row];
-    let mut left = vec![own.selector];
-    for earlier in &table.rows[..row] {
-        if same_group(earlier, own) && ends_above(table, earlier, own) {
-            left = left
-                .iter()
-                .flat_map(|part| subtract(part, &earlier.selector))
-                .collect();
-        }
+    table.rows[..row]
+        .iter()
+        .filter(move |earlier| same_group(earlier, own) && ends_above(table, earlier, own))
+}
+
+/// Disjoint selectors of the packets with which the row wins the probe from its own ends. What has most packets is subtracted
+/// first, so that the parts stay few.
+fn unclaimed(table: &Table, row: usize) -> Vec<Selector> {
+    let own = table.rows[row].selector;
+    let mut taken: Vec<Selector> = cover(table, row)
+        .filter_map(|earlier| intersection(&own, &earlier.selector))
+        .collect();
+    taken.sort_by_key(|selector| Reverse(packets(selector)));
+    let mut left = vec![own];
+    for selector in &taken {
+        left = left
+            .iter()
+            .flat_map(|part| subtract(part, selector))
+            .collect();
     }
     left
+}
+
+/// The number of packets in a selector.
+fn packets(selector: &Selector) -> u128 {
+    selector
+        .iter()
+        .map(|range| u128::from(range.high - range.low) + 1)
+        .product()
 }
 
 /// The least packet with which the row wins the probe from its own ends; none if it is dead.
@@ -88,15 +108,8 @@ mod tests {
                 .iter()
                 .all(|other| intersection(part, other).is_none()));
         }
-        let packets: u64 = left.iter().map(size).sum();
-        assert_eq!(packets, 100_000 - 243);
-    }
-
-    /// The number of packets in a selector.
-    fn size(selector: &Selector) -> u64 {
-        selector
-            .iter()
-            .map(|range| u64::from(range.high - range.low) + 1)
-            .product()
+        let left: u128 = left.iter().map(packets).sum();
+        assert_eq!(left, packets(&whole) - packets(&taken));
+        assert_eq!(left, 100_000 - 243);
     }
 }

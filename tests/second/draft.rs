@@ -43,10 +43,7 @@ pub fn draft(random: &mut Random, scale: Scale) -> Draft<'_> {
         .collect();
     let whole = match scale {
         Scale::Tiny => windows(random),
-        _ => WIDTHS.map(|width| Range {
-            low: 0,
-            high: greatest(width),
-        }),
+        _ => everything(),
     };
     let bounds = whole.map(|range| match scale {
         Scale::Tiny => (range.low..=range.high).collect(),
@@ -157,6 +154,14 @@ fn layer_below(random: &mut Random, parent: u8) -> u8 {
 /// The greatest value of a field of so many bytes.
 pub fn greatest(width: usize) -> u32 {
     u32::MAX >> (32 - 8 * width)
+}
+
+/// The selector of all packets.
+pub fn everything() -> Selector {
+    WIDTHS.map(|width| Range {
+        low: 0,
+        high: greatest(width),
+    })
 }
 
 /// Two to four neighbouring values for each field, the same for both addresses and for both ports.

@@ -24,7 +24,7 @@ pub fn table(random: &mut Random, scale: Scale) -> Table {
 
 impl Draft<'_> {
     /// How many rows the table gets.
-    fn row_count(&mut self) -> usize {
+    pub fn row_count(&mut self) -> usize {
         match self.random.below(20) {
             _ if self.scale == Scale::Tiny => self.random.between(1, 12),
             _ if self.scale == Scale::Full => MOST_ROWS,

@@ -8,6 +8,7 @@ pub mod Filled
 pub mod Scans
 pub mod Passing
 pub mod Numbers
+pub mod Bits
 pub mod Pairs
 pub mod Bounds
 pub mod Outputs

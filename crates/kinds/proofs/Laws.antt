@@ -10,6 +10,7 @@ pub mod Anomalies
 pub mod Examples
 pub mod Entries
 pub mod Ascending
+pub mod Sums
 pub mod Few
 pub mod Apart
 pub mod Splits

@@ -1,6 +1,6 @@
 -- Document 01: the entries of a table's anomalies, "first row, kind, second number", "in ascending order, compared in this sequence".
 -- Assumes nothing.
-use Prim.Native.Nat.{ℕ, zero, suc, _<_}
+use Prim.Native.Nat.{ℕ, zero, suc, _+_, _<_}
 use mathlib.Core.Path.{_≡_}
 use mathlib.Core.List.{List, [], _∷_, _++_}
 use lib.ListN.{length}
@@ -21,6 +21,11 @@ entry i kind j = record { row = i; kind = kind; second = j }
 unfoldable pub gather : ℕ → ℕ → (ℕ → List Entry) → List Entry
 gather zero k f = []
 gather (suc n) k f = f k ++ gather n (suc k) f
+
+-- The sum of what f says of n numbers, from k on.
+unfoldable pub sum : ℕ → ℕ → (ℕ → ℕ) → ℕ
+sum zero k f = 0
+sum (suc n) k f = f k + sum n (suc k) f
 
 -- The entry, if there is the anomaly.
 abbrev pub listed : Table → ℕ → ℕ → ℕ → List Entry

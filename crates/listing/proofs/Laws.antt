@@ -1,5 +1,6 @@
--- Laws of the marks, of the entries that are written, and of what a table lends.
-pub mod Numbers
+-- Laws of the marks, of the entries that are written, of what a table lends, and of the marks that are kept.
+pub mod Ones
 pub mod Puts
 pub mod Tables
+pub mod Kept
 pub mod Places

@@ -26,9 +26,9 @@ bytes (e ∷ es) = e .row ∷ e .kind ∷ e .second ∷ bytes es
 abbrev pub Listing : List Entry → (before after : List ℕ) → Written → Type 0
 Listing es before after r = WritesCounted (length es) (bytes es) before after r
 
--- There is room for the entries es after n others.
-abbrev pub Room : ℕ → List Entry → Type 0
-Room n es = n + length es ≤ mostEntries
+-- A buffer of so many bytes has room for n entries, and es after them.
+abbrev pub Room : ℕ → ℕ → List Entry → Type 0
+Room size n es = entryBytes * (n + length es) ≤ size
 
 -- The entries es are written after n others, and there are m then.
 pub record Put (before : List ℕ) (n : ℕ) (after : List ℕ) (m : ℕ) (es : List Entry) : Type 0 where

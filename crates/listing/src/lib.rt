@@ -6,24 +6,36 @@ pub mod put;
 ghost use Rattle.policy.specs.Views.{tableOf, Held};
 ghost use Rattle.policy.specs.Wellformed.{Wellformed};
 ghost use Rattle.kinds.specs.Entries.{entries};
-ghost use Rattle.listing.specs.Bytes.{Listing, Put};
+ghost use Rattle.listing.specs.Bytes.{Listing};
 use crate::limits::ENTRY_BYTES;
-use crate::limits::LIST_BYTES;
-use crate::put::Staged;
+use crate::marks::Marks;
+use crate::marks::PairMarks;
 use base::Written;
 use kinds::placed;
+use policy::limits::ROWS;
 use policy::table::Table;
 
-// Writes the table's entries into staged from its start. Returns how many there are; the other bytes stay.
-fn stage(t: Table, staged: &mut Staged) -> usize
+// The kinds of each row alone, and with each row.
+struct Kept {
+    own: Marks,
+    pairs: PairMarks,
+}
+
+// Writes the table's entries into out from its start, three bytes each, if there is room for all; the rest of out is unchanged, and all of it
+// where it is too short. The kinds of each row are marked first, and counted.
+pub fn list(t: Table, out: &mut [u8]) -> Written
     requires { ⌜ Held t × Wellformed (tableOf t) ⌝ }
-    ensures { λ n. ⌜ Put (now (staged .entry)) 0 (now (staged .exit)) n (entries (tableOf t)) ⌝ }
+    ensures { λ r. ⌜ Listing (entries (tableOf t)) (now (out .entry)) (now (out .exit)) r ⌝ }
 {
     let roots = placed::roots_of(&t.parents, &t.heads, &t.bounds, t.rows);
+    let mut kept = Kept {
+        own: [0u32; ROWS],
+        pairs: [0u32; ROWS * ROWS],
+    };
     let mut n = 0;
     let mut i = 0;
     while i < t.rows {
-        let own = marks::of_row(
+        let alone = marks::of_row(
             &t.parents,
             &t.masks,
             t.caps,
@@ -36,24 +48,22 @@ fn stage(t: Table, staged: &mut Staged) -> usize
             t.rows,
             i,
         );
-        let pairs = marks::of_pairs(&t.parents, &t.heads, &t.bounds, &roots, t.rows, i);
-        n = put::put_row(staged, n, i as u8, own, &pairs, t.rows);
+        kept.own[i] = alone;
+        marks::of_pairs(
+            &t.parents,
+            &t.heads,
+            &t.bounds,
+            &roots,
+            t.rows,
+            i,
+            &mut kept.pairs,
+        );
+        n += marks::count_row(alone, &kept.pairs, t.rows, i) as usize;
         i += 1;
     }
-    n
-}
-
-// Writes the table's entries into out from its start, three bytes each, if there is room for all; the rest of out is unchanged, and all of it
-// where it is too short.
-pub fn list(t: Table, out: &mut [u8]) -> Written
-    requires { ⌜ Held t × Wellformed (tableOf t) ⌝ }
-    ensures { λ r. ⌜ Listing (entries (tableOf t)) (now (out .entry)) (now (out .exit)) r ⌝ }
-{
-    let mut staged = [0u8; LIST_BYTES];
-    let n = stage(t, &mut staged);
     if out.len() < ENTRY_BYTES * n {
         return Written::Short;
     }
-    bytes::copy(&staged[..ENTRY_BYTES * n], out);
+    put::put_rows(out, &kept.own, &kept.pairs, t.rows);
     Written::Count(n)
 }

@@ -1,14 +1,17 @@
 // The kinds that hold of a row, or of two, as a number: bit k for kind k.
 ghost use mathlib.Core.Path.{_≡_};
-ghost use Prim.Native.Nat.{_+_, _<_};
+ghost use Prim.Native.Nat.{_+_, _≤_, _<_};
 ghost use lib.ListN.{length};
+ghost use Rattle.policy.specs.Limits.{mostRows};
 ghost use Rattle.policy.specs.Views.{parentIn, rowOf};
 ghost use Rattle.relations.specs.Entities.{Parents};
 ghost use Rattle.base.specs.Truths.{bit as bitOf};
 ghost use Rattle.kinds.specs.Views.{placedOf};
 ghost use Rattle.kinds.specs.Tests.{pairOf};
 ghost use Rattle.kinds.specs.Kinds.{kindCount, pairTests};
-ghost use Rattle.listing.specs.Marks.{bitsOf, marked as markedTest, GoodRow, GoodAlone, GoodAmong, MarkedAlone, MarkedPairs};
+ghost use Rattle.kinds.specs.Entries.{mostEntries};
+ghost use Rattle.base.specs.Bits.{bitsOf, marked as markedTest};
+ghost use Rattle.listing.specs.Marks.{GoodRow, GoodAlone, GoodAmong, MarkedAlone, MarkedPairs, rowCount};
 use kinds::numbers;
 use kinds::pair;
 use kinds::path;
@@ -27,6 +30,9 @@ use relations::selector;
 
 // A number for each row.
 pub type Marks = [u32; ROWS];
+
+// A number for each two rows: that of rows i and j at ROWS * i + j.
+pub type PairMarks = [u32; ROWS * ROWS];
 
 // Whether each kind holds, at its number; 0 is no kind's.
 type Holds = [bool; numbers::KINDS + 1];
@@ -60,6 +66,21 @@ pub fn marked(m: u32, k: u8) -> bool
     (m >> k) % 2 == 1
 }
 
+// How many kinds are marked of row i: alone in own, and with each row in pairs.
+pub fn count_row(own: u32, pairs: &PairMarks, rows: usize, i: usize) -> u32
+    requires { ⌜ (i < rows) × (rows ≤ mostRows) × (rowCount own (now pairs) rows i ≤ mostEntries) ⌝ }
+    ensures { λ r. ⌜ r ≡ rowCount own (now (pairs .entry)) rows i ⌝ }
+{
+    let at = ROWS * i;
+    let mut n = u32::count_ones(own);
+    let mut j = 0;
+    while j < rows {
+        n += u32::count_ones(pairs[at + j]);
+        j += 1;
+    }
+    n
+}
+
 // The kinds of rows i and j, which are p and q. Of boxes that do not overlap there are none.
 fn of_pair(parents: &PerEntity, i: usize, j: usize, p: Placed, q: Placed) -> u32
     requires { ⌜ Parents (now parents) × GoodRow (rowOf (p .row)) × GoodRow (rowOf (q .row)) ⌝ }
@@ -82,7 +103,7 @@ fn of_pair(parents: &PerEntity, i: usize, j: usize, p: Placed, q: Placed) -> u32
     bits_of(&holds)
 }
 
-// The kinds of row i and each row; past the rows zeros.
+// Stores the kinds of row i and each row in row i's places of pairs; the others are unchanged.
 pub fn of_pairs<'a>(
     parents: &'a PerEntity,
     heads: &'a Heads,
@@ -90,18 +111,18 @@ pub fn of_pairs<'a>(
     roots: &'a Roots,
     rows: usize,
     i: usize,
-) -> Marks
+    pairs: &'a mut PairMarks,
+)
     requires { ⌜ GoodAmong (now parents) (now heads) (now bounds) rows i ⌝ }
-    ensures { λ r. ⌜ MarkedPairs (now (parents .entry)) (now (heads .entry)) (now (bounds .entry)) (now (roots .entry)) rows i r ⌝ }
+    ensures { λ r. ⌜ MarkedPairs (now (parents .entry)) (now (heads .entry)) (now (bounds .entry)) (now (roots .entry)) rows i (now (pairs .entry)) (now (pairs .exit)) ⌝ }
 {
     let p = placed::placed_at(heads, bounds, roots, i);
-    let mut pairs = [0u32; ROWS];
+    let at = ROWS * i;
     let mut j = 0;
     while j < rows {
-        pairs[j] = of_pair(parents, i, j, p, placed::placed_at(heads, bounds, roots, j));
+        pairs[at + j] = of_pair(parents, i, j, p, placed::placed_at(heads, bounds, roots, j));
         j += 1;
     }
-    pairs
 }
 
 // The kinds of row i alone.

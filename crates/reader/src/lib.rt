@@ -7,7 +7,7 @@ ghost use Rattle.hex.specs.Lines.{bytesOf};
 ghost use Rattle.frames.specs.Progress.{nothing, linesRead};
 ghost use Rattle.frames.specs.Kinds.{ofEntity, ofCap, ofFloor, ofFilter, ofRow};
 ghost use Rattle.reader.specs.Lines.{linesOf};
-ghost use Rattle.reader.specs.States.{reading, refused, step, finish as finished, parse};
+ghost use Rattle.reader.specs.States.{reading, refused, step, parse};
 ghost use Rattle.reader.specs.Views.{progressOf, stateOf, stateWith, Ready, Reads, Parses};
 use frames::cap;
 use frames::entity;
@@ -189,20 +189,6 @@ impl Reader {
             _ => self.refuse(refusals::WRONG_FORM),
         }
     }
-
-    // At the text's end, of a reader that is not refused, with what stands after the last line feed.
-    fn finish(self, rest: &[u8]) -> Reader
-        requires { ⌜ Ready self × (self .number ≡ 0) ⌝ }
-        ensures { λ r. ⌜ Parses r (finished (stateOf self) (now (rest .entry))) ⌝ }
-    {
-        if rest.len() != 0 {
-            return self.refuse(refusals::NO_LINE);
-        }
-        if self.floored == 1 {
-            return self;
-        }
-        self.refuse(refusals::OUT_OF_SEQUENCE)
-    }
 }
 
 // Reads a whole text: the reader then has its table, or the number and the line of its refusal.
@@ -223,7 +209,13 @@ pub fn read(text: &[u8]) -> Reader
             }
         }
     }
-    r.finish(&text[start..])
+    if start < text.len() {
+        return r.refuse(refusals::NO_LINE);
+    }
+    if r.floored == 1 {
+        return r;
+    }
+    r.refuse(refusals::OUT_OF_SEQUENCE)
 }
 
 // The line at place n, without its line feed: a part of the text. The empty part where there are not so many lines.

@@ -1,3 +1,8 @@
--- The laws that crates above cite.
+-- The laws that crates above cite, and those of the search's own functions.
 pub mod Right
-pub mod Loops
+pub mod Sets
+pub mod Kept
+pub mod Walks
+pub mod Agrees
+pub mod Levels
+pub mod Turns

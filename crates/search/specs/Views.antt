@@ -2,15 +2,16 @@
 -- Assumes nothing.
 use Prim.Native.Nat.{ℕ, _≤_, _<_}
 use mathlib.Core.Path.{_≡_}
-use mathlib.Core.List.{List, map}
+use mathlib.Core.List.{List, [], _∷_, map}
 use lib.ListN.{getD, take, drop, length}
 use Rattle.policy.specs.Limits.{mostRows, mostSelectors}
-use Rattle.policy.specs.Model.{Selector}
+use Rattle.policy.specs.Model.{Selector, Packet as PacketModel}
 use Rattle.policy.specs.Views.{value as valueOf, packetOf, selectorIn}
 use Rattle.search.specs.Search.{Candidate, value, last, SearchResult, found, none}
 use Rattle.search.specs.declared.Boxes.{Boxes}
 use Rattle.search.specs.declared.Next.{Next}
 use Rattle.search.specs.declared.Next.the-variants.{Value, Last}
+use Rattle.search.specs.declared.walk.Values.{Values}
 use Rattle.search.specs.declared.Found.{Found}
 use Rattle.search.specs.declared.Found.the-variants.{Packet, Nothing}
 
@@ -41,3 +42,7 @@ candidateOf Last = last
 abbrev pub resultOf : Found → SearchResult
 resultOf (Packet p) = found (packetOf p)
 resultOf Nothing = none
+
+-- The values of a walk's fields, in the order of the walk.
+abbrev pub valuesOf : Values → PacketModel
+valuesOf v = valueOf (v .first) ∷ valueOf (v .second) ∷ valueOf (v .third) ∷ valueOf (v .fourth) ∷ valueOf (v .fifth) ∷ []

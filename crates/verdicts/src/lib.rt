@@ -58,8 +58,5 @@ pub fn is_dead<'a>(parents: &'a PerEntity, heads: &'a Heads, bounds: &'a Bounds,
     requires { ⌜ Asked (now parents) (now heads) (now bounds) i ⌝ }
     ensures { λ r. ⌜ r ≡ isNone (verdictIn (now (parents .entry)) (now (heads .entry)) (now (bounds .entry)) i) ⌝ }
 {
-    match judge(parents, heads, bounds, i) {
-        Found::Packet(_) => false,
-        Found::Nothing => true,
-    }
+    search::hidden(bounds, i, cover(parents, heads, bounds, i))
 }

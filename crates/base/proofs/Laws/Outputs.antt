@@ -46,7 +46,3 @@ module _ (result out : List ℕ) where
 
     pub writes-stored : {after : List ℕ} {m : ℕ} (n : ℕ) → n ≡ m → after ≡ sets out 0 result → WritesCounted m result out after (Count n)
     writes-stored n e f = record { output = f ∙ written-stored; answer = rw fits-all (ap Count e) }
-
-    pub writes-copied : {m : ℕ} (from after : List ℕ) (n : ℕ) → n ≡ m → from ≡ result → after ≡ take (length from) from ++ drop (length from) out
-        → WritesCounted m result out after (Count n)
-    writes-copied from after n e f g = record { output = g ∙ written-copied from f; answer = rw fits-all (ap Count e) }

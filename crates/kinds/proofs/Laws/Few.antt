@@ -1,20 +1,20 @@
 -- At most 12,800 entries: of each row at most three with each other row, and eleven alone, 63 · 3 + 11.
 -- Assumes nothing.
-use Prim.Native.Nat.{ℕ, zero, suc, _+_, _-_, _*_, _≤_, _<_}
+use Prim.Native.Nat.{ℕ, suc, _+_, _-_, _*_, _≤_}
 use mathlib.Core.Path.{_≡_, refl, sym, ap, _∙_}
 use mathlib.Core.Bool.{Bool, true, false}
 use mathlib.Core.Logic.{inl, inr}
 use mathlib.Core.List.{List, [], _∷_, map}
 use native.Mathlib.Numerals.{add-one}
 use native.Mathlib.Omega.{arith}
-use lib.Dec.{eqb, ltb}
-use lib.ListN.{length, getD, length-append}
+use lib.Dec.{ltb}
+use lib.ListN.{length, length-append}
 use Rattle.base.specs.Truths.{pick, Decides, bit}
 use Rattle.policy.specs.Limits.{mostRows}
 use Rattle.policy.specs.Model.{Table, rowAt, parentOf}
 use Rattle.policy.specs.Wellformed.{Wellformed}
 use Rattle.relations.specs.Technologies.{layerOf}
-use Rattle.base.proofs.Laws.Decides.{decides-eqb, decides-ltb, decides-holds, decides-fails, decided}
+use Rattle.base.proofs.Laws.Decides.{decides-eqb, decides-ltb, decides-holds, decides-fails}
 use Rattle.relations.proofs.Laws.Entities.{above-antisym}
 use Rattle.relations.proofs.Laws.Selectors.{contains-antisym}
 use Rattle.relations.proofs.Laws.Tables.{table-tree}
@@ -23,64 +23,14 @@ use Rattle.kinds.specs.Meanings.{IsRow, EarlierInGroup, Encloses, SameTr
 use Rattle.kinds.specs.Tests.{pairAt, shadowing, redundancy, exception, correlation, inclusion, affinity, contradiction, skewed, monitorable}
 use Rattle.kinds.specs.Seen.{Seen, seenOf}
 use Rattle.kinds.specs.Kinds.{Kind, noKind, alone, paired, kinds, kindCount, noSecond, anomaly, ofOne}
-use Rattle.kinds.specs.Entries.{Entry, entry, gather, listed, ofKind, ofRow, entries, mostEntries}
+use Rattle.kinds.specs.Entries.{Entry, entry, gather, sum, listed, ofKind, ofRow, entries, mostEntries}
 use Rattle.kinds.proofs.Laws.Pairs as pairs
 use Rattle.kinds.proofs.Laws.Splits.{anomaly-row}
+use Rattle.kinds.proofs.Laws.Sums.{gather-length, sum-add, sum-exchange, sum-le, sum-but, total, sum-list}
 
 -- Of one row.
 abbrev mostOfRow : ℕ
 mostOfRow = 3 * (mostRows - 1) + 11
-
--- ---- sums
-
--- Of n numbers f x, from x = k on.
-sum : ℕ → ℕ → (ℕ → ℕ) → ℕ
-sum zero k f = 0
-sum (suc n) k f = f k + sum n (suc k) f
-
-gather-length : (f : ℕ → List Entry) (g : ℕ → ℕ) → ((x : ℕ) → length (f x) ≡ g x) → (n k : ℕ) → length (gather n k f) ≡ sum n k g
-unfolding gather sum
-gather-length f g h zero k = refl
-gather-length f g h (suc n) k = length-append (f k) (gather n (suc k) f) ∙ (λ i. h k i + gather-length f g h n (suc k) i)
-
-sum-add : (f g : ℕ → ℕ) (n k : ℕ) → sum n k (λ x. f x + g x) ≡ sum n k f + sum n k g
-unfolding sum
-sum-add f g zero k = refl
-sum-add f g (suc n) k = let h = sum-add f g n (suc k) in omega arith
-
-sum-zero : (n k : ℕ) → sum n k (λ x. 0) ≡ 0
-unfolding sum
-sum-zero zero k = refl
-sum-zero (suc n) k = let h = sum-zero n (suc k) in omega arith
-
-sum-exchange : (f : ℕ → ℕ → ℕ) (m l n k : ℕ) → sum n k (λ x. sum m l (f x)) ≡ sum m l (λ y. sum n k (λ x. f x y))
-unfolding sum
-sum-exchange f m l zero k = sym (sum-zero m l)
-sum-exchange f m l (suc n) k =
-    ap (λ s. sum m l (f k) + s) (sum-exchange f m l n (suc k)) ∙ sym (sum-add (f k) (λ y. sum n (suc k) (λ x. f x y)) m l)
-
-module _ (f : ℕ → ℕ) (c : ℕ) where
-  sum-le : (n k : ℕ) → ((x : ℕ) → k ≤ x → x < k + n → f x ≤ c) → sum n k f ≤ n * c
-  unfolding sum
-  sum-le zero k h = omega arith
-  sum-le (suc n) k h =
-      let a = h k (omega arith) (omega arith) in
-      let b = sum-le n (suc k) (λ x l m. h x (omega arith) (omega arith)) in omega arith
-
-  -- One of them is 0.
-  sum-but : (i n k : ℕ) → k ≤ i → i < k + n → ((x : ℕ) → k ≤ x → x < k + n → f x ≤ c) → f i ≡ 0 → sum n k f + c ≤ n * c
-  unfolding sum
-  sum-but i zero k l m h z = absurd (omega arith)
-  sum-but i (suc n) k l m h z = elim (decided (eqb k i) (decides-eqb k i)) [
-    | inl q ↦
-        let a : f k ≡ 0 = rw q z in
-        let b = sum-le n (suc k) (λ x l m. h x (omega arith) (omega arith)) in
-        omega arith
-    | inr ne ↦
-        let a = h k (omega arith) (omega arith) in
-        let b = sum-but i n (suc k) (omega (arith, ne)) (omega arith) (λ x l m. h x (omega arith) (omega arith)) z in
-        omega arith
-  ]
 
 -- ---- tests that are counted
 
@@ -96,20 +46,6 @@ counted-le : (b : Bool) → counted b ≤ 1
 unfolding counted
 counted-le b = bit-le b
 
--- Tests at their places, from k on.
-total : List Bool → ℕ
-total [] = 0
-total (b ∷ bs) = counted b + total bs
-
-sum-list : (bs : List Bool) (k : ℕ) (f : ℕ → ℕ) → ((m : ℕ) → f (m + k) ≡ counted (getD bs m false)) → sum (length bs) k f ≡ total bs
-unfolding sum total
-sum-list [] k f h = refl
-sum-list (b ∷ bs) k f h =
-    let z : 0 + k ≡ k = omega arith in
-    let e : f k ≡ counted b = ap f (sym z) ∙ h 0 in
-    let r = sum-list bs (suc k) f (λ m. let q : m + suc k ≡ suc m + k = omega arith in ap f q ∙ h (suc m)) in
-    omega arith
-
 -- How many kinds are of one row: no more hold of it alone.
 aloneCount : List Kind → ℕ
 aloneCount [] = 0
@@ -117,7 +53,7 @@ aloneCount (noKind ∷ l) = aloneCount l
 aloneCount (alone P b ∷ l) = suc (aloneCount l)
 aloneCount (paired P b ∷ l) = aloneCount l
 
-alone-most : (s : Seen) (i : ℕ) (l : List Kind) → total (map (ofOne s i) l) ≤ aloneCount l
+alone-most : (s : Seen) (i : ℕ) (l : List Kind) → total counted (map (ofOne s i) l) ≤ aloneCount l
 unfolding total aloneCount counted
 alone-most s i [] = omega arith
 alone-most s i (noKind ∷ l) = let r = alone-most s i l in omega arith
@@ -164,7 +100,7 @@ module _ (t : Table) (w : Wellformed t) (i : ℕ) (hi : IsRow t i) where
   -- At FF: the kinds of one row.
   of-one : sum kindCount 1 (λ kind. found kind noSecond) ≤ aloneCount kinds
   of-one =
-      let e = sum-list (map (ofOne (seenOf t) i) kinds) 1 (λ kind. found kind noSecond) (λ m. rw (add-one m) (ap counted (anomaly-row t w i (suc m) hi))) in
+      let e = sum-list counted false (map (ofOne (seenOf t) i) kinds) 1 (λ kind. found kind noSecond) (λ m. rw (add-one m) (ap counted (anomaly-row t w i (suc m) hi))) in
       omega (arith, alone-most (seenOf t) i kinds)
 
   -- None at the row itself.
@@ -237,13 +173,21 @@ module _ (t : Table) (w : Wellformed t) (i : ℕ) (hi : IsRow t i) where
       ∙ (λ k. gather-length (λ j. listed t i kind j) (found kind) (λ j. pick-length _ (entry i kind j)) (length (t .rows)) 0 k
       + pick-length (anomaly t i kind noSecond) (entry i kind noSecond) k)
 
-  row-length : length (ofRow t i) ≤ mostOfRow
-  unfolding aloneCount
-  row-length =
+  -- They are listed kind by kind, and counted second number by second number.
+  pub row-counted : length (ofRow t i) ≡ sum (length (t .rows)) 0 (λ j. sum kindCount 1 (λ kind. bit (anomaly t i kind j))) + sum kindCount 1 (λ kind. bit (anomaly t i kind noSecond))
+  unfolding counted
+  row-counted =
       let n = length (t .rows) in
       let a = gather-length (ofKind t i) _ kind-length kindCount 1 in
       let b = sum-add (λ kind. sum n 0 (found kind)) (λ kind. found kind noSecond) kindCount 1 in
       let c = sum-exchange found n 0 kindCount 1 in
+      omega arith
+
+  row-length : length (ofRow t i) ≤ mostOfRow
+  unfolding aloneCount counted
+  row-length =
+      let n = length (t .rows) in
+      let a = row-counted in
       let d = sum-but (λ j. sum kindCount 1 (λ kind. found kind j)) 3 i n 0 (omega arith) (omega arith) (λ j l m. at-most-three j (omega arith)) (omega (arith, of-two i hi, no-seven, no-two)) in
       let e = of-one in
       let f = w .few-rows in

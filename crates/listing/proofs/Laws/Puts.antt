@@ -5,9 +5,9 @@ use mathlib.Core.Path.{_≡_, refl, sym, ap, _∙_}
 use mathlib.Core.List.{List, [], _∷_, _++_, append-nil, append-assoc}
 use native.Mathlib.Numerals.{add-one}
 use native.Mathlib.Omega.{arith}
-use lib.ListN.{length, take, drop, length-append}
-use lib.Seq.{sets, sets-eq, take-append-seam}
-use Rattle.base.proofs.Laws.Outputs.{writes-not, writes-copied}
+use lib.ListN.{length, length-append}
+use lib.Seq.{sets, length-sets}
+use Rattle.base.proofs.Laws.Outputs.{writes-not, writes-stored}
 use Rattle.base.proofs.Laws.Lists.{sets-append}
 use Rattle.kinds.specs.Entries.{Entry, gather}
 use Rattle.kinds.proofs.Laws.Entries.{gather-next, gather-end}
@@ -50,24 +50,25 @@ put-then {a} {b} {c} {n} {m} {k} {es} {fs} p q =
       count = let f = length-append es fs in let g = q .count in omega arith;
     }
 
--- Written from the start, they are the first bytes.
-pub put-first : {a b : List ℕ} {n : ℕ} {es : List Entry} → Put a 0 b n es → entryBytes * length es ≤ length a → take (entryBytes * n) b ≡ bytes es
-put-first {a} {b} {n} {es} p h =
-    let l = length-bytes es in
-    let c = p .count in
-    let e : entryBytes * n ≡ length (bytes es) = omega arith in
-    ap (take (entryBytes * n)) (p .stored ∙ sets-eq (bytes es) a 0 (omega arith))
-    ∙ ap (λ (k : ℕ). take k (bytes es ++ drop (0 + length (bytes es)) a)) e
-    ∙ take-append-seam (bytes es) (drop (0 + length (bytes es)) a)
+-- There is room for the first of two lists; the buffer stays as long, and has room for the second after the first.
+pub room-first : (size n : ℕ) (es fs : List Entry) → Room size n (es ++ fs) → Room size n es
+room-first size n es fs r = let e = length-append es fs in omega arith
+
+module _ {a b : List ℕ} {n m : ℕ} {es : List Entry} (p : Put a n b m es) where
+  pub put-long : length b ≡ length a
+  put-long = ap length (p .stored) ∙ length-sets a (entryBytes * n) (bytes es)
+
+  pub room-second : (fs : List Entry) → Room (length a) n (es ++ fs) → Room (length b) m fs
+  room-second fs r = let l = put-long in let c = p .count in let e = length-append es fs in omega arith
 
 -- ---- the caller's buffer
 
 pub listing-short : (es : List Entry) (out : List ℕ) → length out < entryBytes * length es → Listing es out out Short
 listing-short es out h = writes-not (bytes es) out (omega (arith, h, length-bytes es))
 
-pub listing-whole : (es : List Entry) (out from after : List ℕ) (n : ℕ) → entryBytes * length es ≤ length out → n ≡ length es → from ≡ bytes es
-    → after ≡ take (length from) from ++ drop (length from) out → Listing es out after (Count n)
-listing-whole es out from after n h c e a = writes-copied (bytes es) out (omega (arith, h, length-bytes es)) from after n c e a
+pub listing-whole : {es : List Entry} {out after : List ℕ} {m : ℕ} (n : ℕ) → entryBytes * length es ≤ length out → n ≡ length es → Put out 0 after m es
+    → Listing es out after (Count n)
+listing-whole {es} {out} n h c p = writes-stored (bytes es) out (omega (arith, h, length-bytes es)) n c (p .stored)
 
 -- ---- entries one after another
 
@@ -85,24 +86,23 @@ module _ (f : ℕ → List Entry) (last : ℕ) where
   abbrev pub from : ℕ → List Entry
   from k = gather (last - k) k f
 
-  begun : (k : ℕ) → k < last → from k ≡ f k ++ from (k + 1)
-  begun k h =
+  pub from-begun : (k : ℕ) → k < last → from k ≡ f k ++ from (k + 1)
+  from-begun k h =
       let e : last - k ≡ suc (last - (k + 1)) = omega arith in
       ap (λ (n : ℕ). gather n k f) e ∙ gather-next f (last - (k + 1)) k ∙ ap (λ (j : ℕ). f k ++ gather (last - (k + 1)) j f) (sym (add-one k))
 
+  pub from-none : (k : ℕ) → last ≤ k → from k ≡ []
+  from-none k h = let e : last - k ≡ 0 = omega arith in ap (λ (n : ℕ). gather n k f) e ∙ gather-end f k
+
   module _ {before after : List ℕ} {n m : ℕ} {whole : List Entry} (k : ℕ) where
-    pub from-room : k < last → Going before n after m whole (from k) → Room n whole → Room m (f k)
+    pub from-room : k < last → Going before n after m whole (from k) → Room (length before) n whole → Room (length after) m (f k)
     from-room h g r =
-        let g' : Going before n after m whole (f k ++ from (k + 1)) = rw (begun k h) at g in
-        let e = ap length (g' .rest) in
-        let d = length-append (g' .done) (f k ++ from (k + 1)) in
-        let l = length-append (f k) (from (k + 1)) in
-        let c = g' .put .count in
-        omega arith
+        let g' : Going before n after m whole (f k ++ from (k + 1)) = rw (from-begun k h) at g in
+        room-first (length after) m (f k) (from (k + 1)) (room-second (g' .put) (f k ++ from (k + 1)) (rw (g' .rest) r))
 
     pub from-next : {next : List ℕ} {l : ℕ} → k < last → Going before n after m whole (from k) → Put after m next l (f k) → Going before n next l whole (from (k + 1))
     from-next h g p =
-        let g' : Going before n after m whole (f k ++ from (k + 1)) = rw (begun k h) at g in
+        let g' : Going before n after m whole (f k ++ from (k + 1)) = rw (from-begun k h) at g in
         record {
           done = g' .done ++ f k;
           put = put-then (g' .put) p;
@@ -111,6 +111,5 @@ module _ (f : ℕ → List Entry) (last : ℕ) where
 
     pub from-end : last ≤ k → Going before n after m whole (from k) → Put before n after m whole
     from-end h g =
-        let e : last - k ≡ 0 = omega arith in
-        let g' : Going before n after m whole [] = rw (ap (λ (n : ℕ). gather n k f) e ∙ gather-end f k) at g in
+        let g' : Going before n after m whole [] = rw (from-none k h) at g in
         rw (sym (append-nil (g' .done)) ∙ g' .rest) at (g' .put)

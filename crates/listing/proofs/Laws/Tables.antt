@@ -1,14 +1,16 @@
 -- What the code finds from what a table lends is what the definitions say of the table: its rows, their roots, their kinds, their entries.
 -- Assumes nothing.
-use Prim.Native.Nat.{ℕ, _+_, _<_}
+use Prim.Native.Nat.{ℕ, _<_}
 use mathlib.Core.Path.{_≡_, refl, sym, ap, subst, _∙_}
 use mathlib.Core.Bool.{Bool, false}
 use mathlib.Core.List.{List, _++_, map}
 use native.Mathlib.Omega.{arith}
+use lib.Count.{ones}
 use lib.ListN.{length, getD}
 use lib.Seq.{take-all}
+use Rattle.base.specs.Truths.{bit}
 use Rattle.base.proofs.Laws.Lists.{length-tabulate, getD-tabulate}
-use Rattle.policy.specs.Limits.{technologies, mostRows}
+use Rattle.policy.specs.Limits.{technologies}
 use Rattle.policy.specs.Model.{Table, noFilter, entityAt, rowAt, parentOf}
 use Rattle.policy.specs.Views.{parentIn, rowIn, filterIn, coefficientsOf, tableOf, Held}
 use Rattle.policy.specs.Wellformed.{Wellformed}
@@ -23,16 +25,31 @@ use Rattle.verdicts.proofs.Laws.Tables.{lent-verdict}
 use Rattle.kinds.specs.Meanings.{IsRow, sourceRoot, destinationRoot}
 use Rattle.kinds.specs.Views.{fromIn, toIn, Ends, Rooted}
 use Rattle.kinds.specs.Seen.{Seen, seenOf, seenIn, pairIn}
-use Rattle.kinds.specs.Kinds.{kindCount, noSecond, anomaly, rowTests, pairTests}
+use Rattle.kinds.specs.Kinds.{kinds, kindCount, noSecond, anomaly, ofOne, ofTwo, rowTests, pairTests}
 use Rattle.kinds.specs.declared.pair.Pair.{Pair}
-use Rattle.kinds.specs.Entries.{Entry, gather, listed, ofKind, ofRow, entries}
-use Rattle.base.proofs.Laws.Filled.{filled-at}
+use Rattle.kinds.specs.Entries.{Entry, gather, sum, listed, ofKind, ofRow, entries}
 use Rattle.kinds.proofs.Laws.Placed.{rooted-from, rooted-to}
 use Rattle.kinds.proofs.Laws.Entries.{entries-rows, gather-same}
+use Rattle.kinds.proofs.Laws.Sums.{sum-same}
+use Rattle.kinds.proofs.Laws.Few.{row-counted}
 use Rattle.kinds.proofs.Laws.Splits.{anomaly-pair, anomaly-row}
 use Rattle.kinds.proofs.Laws.Alike.{Alike, pair-alike, row-alike}
-use Rattle.listing.specs.Marks.{marked, GoodRow, GoodRows, GoodAlone, MarkedAlone, MarkedPairs, pairMarks, listedIf, pairsMarked, kindMarked, rowMarked}
-use Rattle.listing.proofs.Laws.Numbers.{marked-bits}
+use Rattle.base.specs.Bits.{bitsOf, marked}
+use Rattle.listing.specs.Marks.{GoodRow, GoodRows, GoodAlone, pairMarks, markAt, rowCount, listedIf, pairsMarked, kindMarked, rowMarked}
+use Rattle.base.proofs.Laws.Bits.{marked-bits}
+use Rattle.listing.proofs.Laws.Ones.{ones-kinds}
+
+-- What the tests look at; the kinds of row i alone, and with row j.
+module _ (t : TableStruct) (roots : List ℕ) where
+  abbrev seen : Seen
+  seen =
+      seenIn (t .parents) (t .masks) (map coefficientsOf (t .caps)) (coefficientsOf (t .floor)) (t .filters) (t .«filter_roots») (t .heads) (t .bounds) roots (t .rows)
+
+  abbrev pub aloneAt : ℕ → ℕ
+  aloneAt i = bitsOf (rowTests seen i)
+
+  abbrev pub pairedAt : ℕ → ℕ → ℕ
+  pairedAt i j = pairMarks (t .parents) (t .heads) (t .bounds) roots i j
 
 module _ (t : TableStruct) (z : Sized t) (held : Held t) (w : Wellformed (tableOf t)) where
   abbrev T : Table
@@ -109,15 +126,10 @@ module _ (t : TableStruct) (z : Sized t) (held : Held t) (w : Wellformed (tableO
             to = let e = to-entity in omega arith;
           }
 
-    -- what the tests look at
-    abbrev seen : Seen
-    seen =
-        seenIn (t .parents) (t .masks) (map coefficientsOf (t .caps)) (coefficientsOf (t .floor)) (t .filters) (t .«filter_roots») (t .heads) (t .bounds) roots (t .rows)
-
     mask : (e k : ℕ) → e < t .entities → e ≡ k → getD (t .masks) e 0 ≡ entityAt T k .mask
     mask e k b q = sym (mask-same t e b) ∙ ap (λ (x : ℕ). entityAt T x .mask) q
 
-    alike : Alike seen (seenOf T)
+    alike : Alike (seen t roots) (seenOf T)
     alike =
         record {
           up = parents;
@@ -132,20 +144,18 @@ module _ (t : TableStruct) (z : Sized t) (held : Held t) (w : Wellformed (tableO
           dead = λ i h. ap isNone (lent-verdict t z held i h);
         }
 
-    -- the entries that are marked are the table's
-    module _ (i : ℕ) (h : i < t .rows) (own : ℕ) (pairs : List ℕ)
-        (o : MarkedAlone (t .parents) (t .masks) (t .caps) (t .floor) (t .filters) (t .«filter_roots») (t .heads) (t .bounds) roots (t .rows) i own)
-        (p : MarkedPairs (t .parents) (t .heads) (t .bounds) roots (t .rows) i pairs) where
+    -- the entries that are marked are the table's, and as many as are marked
+    module _ (i : ℕ) (h : i < t .rows) (own : ℕ) (pairs : List ℕ) (o : own ≡ aloneAt t roots i)
+        (p : (j : ℕ) → j < t .rows → markAt pairs i j ≡ pairedAt t roots i j) where
       own-listed : (kind : ℕ) → marked own kind ≡ anomaly T i kind noSecond
       own-listed kind =
-          ap (λ (n : ℕ). marked n kind) (o .marks) ∙ marked-bits (rowTests seen i) kind ∙ ap (λ (l : List Bool). getD l kind false) (row-alike alike i h)
+          ap (λ (n : ℕ). marked n kind) o ∙ marked-bits (rowTests (seen t roots) i) kind ∙ ap (λ (l : List Bool). getD l kind false) (row-alike alike i h)
           ∙ sym (anomaly-row T w i kind (is-row i h))
 
-      pair-listed : (kind j : ℕ) → j < t .rows → marked (getD pairs j 0) kind ≡ anomaly T i kind j
+      pair-listed : (kind j : ℕ) → j < t .rows → marked (markAt pairs i j) kind ≡ anomaly T i kind j
       pair-listed kind j k =
-          ap (λ (l : List ℕ). marked (getD l j 0) kind) (p .whole)
-          ∙ ap (λ (n : ℕ). marked n kind) (filled-at 0 (pairMarks (t .parents) (t .heads) (t .bounds) roots i) mostRows (t .rows) j k (held .rows))
-          ∙ marked-bits (pairTests (pairIn seen i j)) kind
+          ap (λ (n : ℕ). marked n kind) (p j k)
+          ∙ marked-bits (pairTests (pairIn (seen t roots) i j)) kind
           ∙ ap (λ (q : Pair). getD (pairTests q) kind false) (pair-alike alike i j h k)
           ∙ sym (anomaly-pair T w i kind (is-row i h) j (is-row j k))
 
@@ -158,9 +168,20 @@ module _ (t : TableStruct) (z : Sized t) (held : Held t) (w : Wellformed (tableO
         where
           with-rows : (kind : ℕ) → pairsMarked pairs (t .rows) i kind ≡ gather (length (T .rows)) 0 (λ j. listed T i kind j)
           with-rows kind =
-              gather-same (λ j. listedIf (marked (getD pairs j 0) kind) i kind j) (λ j. listed T i kind j) (t .rows) 0
+              gather-same (λ j. listedIf (marked (markAt pairs i j) kind) i kind j) (λ j. listed T i kind j) (t .rows) 0
               (λ j a b. ap (λ (x : Bool). listedIf x i kind j) (pair-listed kind j (omega arith)))
               ∙ ap (λ (n : ℕ). gather n 0 (λ j. listed T i kind j)) (sym rows-counted)
+
+      pub row-count : rowCount own pairs (t .rows) i ≡ length (ofRow T i)
+      row-count =
+          let g : ℕ → ℕ = λ j. sum kindCount 1 (λ kind. bit (anomaly T i kind j)) in
+          let a = ones-kinds (map (ofOne (seen t roots) i) kinds) own (λ kind. anomaly T i kind noSecond) o own-listed in
+          let b =
+          sum-same (λ j. ones (markAt pairs i j)) g (t .rows) 0
+          (λ j l k. ones-kinds (map (ofTwo (pairIn (seen t roots) i j)) kinds) (markAt pairs i j) (λ kind. anomaly T i kind j) (p j (omega arith)) (λ kind. pair-listed kind j (omega arith))) in
+          let c = row-counted T w i (is-row i h) in
+          let d = ap (λ (n : ℕ). sum n 0 g) rows-counted in
+          omega arith
 
   -- the entries, row by row
   pub all-listed : entries T ≡ gather (t .rows) 0 (ofRow T)

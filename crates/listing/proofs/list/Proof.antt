@@ -1,67 +1,165 @@
--- `list` meets its contract: the staged entries are copied if there is room for them. Assumes nothing.
+-- `list` meets its contract: the rows before i are marked, and their entries counted; once all are, the entries that are marked are written if
+-- there is room for them. Assumes nothing.
 use borrow.Author.Needs.{needs}
-use Prim.Native.Nat.{ℕ, _*_, _≤_}
-use mathlib.Core.Path.{_≡_, sym, ap, _∙_}
+use Prim.Native.Nat.{ℕ, _+_, _-_, _*_, _≤_, _<_}
+use mathlib.Core.Path.{_≡_}
 use mathlib.Core.List.{List}
 use native.Mathlib.Omega.{arith}
 use denote.Ref.{now}
-use lib.ListN.{length, take, length-replicate}
-use lib.Seq.{length-sets, length-take-le}
-use Rattle.policy.specs.Views.{tableOf}
+use lib.ListN.{length, set, length-replicate}
+use Rattle.policy.specs.Limits.{mostRows}
+use Rattle.policy.specs.Views.{tableOf, Held}
+use Rattle.policy.specs.Wellformed.{Wellformed}
+use Rattle.policy.specs.declared.table.Table.{Table as TableStruct}
+use Rattle.policy.proofs.Laws.Tables.{Sized, sized}
+use Rattle.relations.specs.Entities.{Parents}
+use Rattle.relations.proofs.Laws.Tables.{lent-parents}
+use Rattle.kinds.specs.Views.{Rooted}
 use Rattle.kinds.specs.Entries.{Entry, entries, mostEntries}
 use Rattle.kinds.proofs.Laws.Few.{entries-few}
-use Rattle.listing.specs.Bytes.{entryBytes, listBytes, bytes}
-use Rattle.listing.proofs.Laws.Puts.{put-first, listing-short, listing-whole}
+use Rattle.listing.specs.Bytes.{entryBytes}
+use Rattle.listing.specs.Marks.{rowCount, allMarked}
+use Rattle.listing.proofs.Laws.Puts.{listing-short, listing-whole}
+use Rattle.listing.proofs.Laws.Tables.{good-rows, ends, good-alone}
+use Rattle.listing.proofs.Laws.Kept.{Marking, marking-start, marking-few, marking-next, marking-same, marking-count}
 use Rattle.listing.proofs.list.Statement.{statement}
 use Rattle.listing.proofs.list.Tie as tie
 
--- the entries, as many as were staged
-module _ (c : tie.After-stage) where
-  abbrev s : tie.Start
-  s = c .before .before .before
+abbrev I : tie.InvT-loop
+I out t roots kept₀ n₀ i₀ kept n i = (i ≤ t .rows) × Marking t roots (kept .own) (kept .pairs) n i
+
+abbrev μ : tie.MeasureT-loop
+μ out t roots kept₀ n₀ i₀ kept n i = t .rows - i
+
+-- what the table keeps
+module _ (s : tie.Start I μ) where
+  abbrev t : TableStruct
+  t = s .args .t1
+
+  held : Held t
+  held = s .pre .0
+
+  well : Wellformed (tableOf t)
+  well = s .pre .1
+
+  size : Sized t
+  size = sized t (s .good .0)
+
+  parents : Parents (t .parents)
+  parents = lent-parents t size held well
+
+-- the roots that were found
+module _ (c : tie.After-roots-of I μ) where
+  abbrev s : tie.Start I μ
+  s = c .before .before .before .before .before .before
+
+  rooted : Rooted (t s .parents) (t s .heads) (t s .bounds) (t s .rows) (c .roots-of .result)
+  rooted = c .roots-of .ensures
+
+starts : tie.Need-loop-holds I μ
+starts c =
+    let a = s c in
+    (omega arith, marking-start (t a) (size a) (held a) (well a) _ (rooted c) _ _ (length-replicate {A = ℕ} mostRows 0) (length-replicate {A = ℕ} (mostRows * mostRows) 0))
+
+row-asked : tie.Need-of-row-requires I μ
+row-asked c κs =
+    let k = c .before .before .before .before .before .before .before .before .before in
+    let r = k .before .before in
+    good-alone (t (s r)) (size (s r)) (held (s r)) (well (s r)) _ (rooted r) (k .before .loop .i) (k .loop-test .taken) (parents (s r))
+
+-- row i, and the kinds of it alone that were found
+module _ (c : tie.After-of-row I μ) where
+  abbrev loop : tie.At-loop I μ
+  loop = c .before .before .before .before .before .before .before .before .before .before .before
+
+  abbrev r : tie.After-roots-of I μ
+  r = loop .before
+
+  h : loop .loop .i < t (s r) .rows
+  h = c .before .before .before .before .before .before .before .before .before .before .loop-test .taken
+
+pairs-asked : tie.Need-of-pairs-requires I μ
+pairs-asked c κs =
+    let o = c .before .before .before .before .before .before in
+    let a = s (r o) in
+    record { tree = parents a; each = good-rows (t a) (size a) (held a) (well a); few = held a .rows; row = h o }
+
+-- the kinds of row i with each row
+module _ (c : tie.After-of-pairs I μ) where
+  abbrev o : tie.After-of-row I μ
+  o = c .before .before .before .before .before .before .before
+
+  abbrev a : tie.Start I μ
+  a = s (r o)
+
+  abbrev count : ℕ
+  count = rowCount (o .of-row .result) (c .of-pairs .last .1 .1 .1 .1 .1 .1 .0) (t a .rows) (loop o .loop .i)
+
+  few : loop o .loop .n + count ≤ mostEntries
+  few = marking-few (t a) (size a) (held a) (well a) _ (rooted (r o)) (loop o .loop .inv .1) (h o) (o .of-row .ensures) (c .of-pairs .ensures)
+
+  next : Marking (t a) (r o .roots-of .result) (set (loop o .loop .kept .own) (loop o .loop .i) (o .of-row .result)) (c .of-pairs .last .1 .1 .1 .1 .1 .1 .0) (loop o .loop .n + count) (loop o .loop .i + 1)
+  next = marking-next (t a) (size a) (held a) (well a) _ (rooted (r o)) (loop o .loop .inv .1) (h o) (o .of-row .ensures) (c .of-pairs .ensures)
+
+again : tie.Need-loop-again I μ
+again c =
+    let p = c .before .before .before in
+    let k = h (o p) in
+    (omega arith, rw (c .count-row .ensures) (next p))
+
+-- all rows are marked
+module _ (c : tie.After-loop I μ) where
+  abbrev b : tie.Start I μ
+  b = s (c .before .before)
 
   abbrev es : List Entry
-  es = entries (tableOf (s .args .t))
+  es = entries (tableOf (t b))
 
-  count : c .stage .result ≡ length es
-  count = let e = c .stage .ensures .count in omega arith
+  all : c .before .loop .i ≡ t b .rows
+  all = let k = c .loop-test .left in let m = c .before .loop .inv .0 in omega arith
 
-  long : length (c .stage .last .1 .0) ≡ listBytes
-  long = ap length (c .stage .ensures .stored) ∙ length-sets _ 0 (bytes es) ∙ length-replicate {A = ℕ} listBytes 0
+  same : allMarked (c .before .loop .kept .own) (c .before .loop .kept .pairs) (t b .rows) ≡ es
+  same = marking-same (t b) (size b) (held b) (well b) _ (rooted (c .before .before)) (c .before .loop .inv .1) all
 
-  few : length es ≤ mostEntries
-  few = entries-few (tableOf (s .args .t)) (s .pre .1)
+  counted : c .before .loop .n ≡ length es
+  counted = marking-count (t b) (size b) (held b) (well b) _ (rooted (c .before .before)) (c .before .loop .inv .1) all
 
-  first : take (entryBytes * c .stage .result) (c .stage .last .1 .0) ≡ bytes es
-  first = let f = few in let l = length-replicate {A = ℕ} listBytes 0 in put-first (c .stage .ensures) (omega arith)
-
-  part : length (take (entryBytes * c .stage .result) (c .stage .last .1 .0)) ≡ entryBytes * c .stage .result
-  part = let e = count in let f = few in let l = long in length-take-le (entryBytes * c .stage .result) (c .stage .last .1 .0) (omega arith)
-
-short : tie.Need-returns
+short : tie.Need-returns I μ
 short c =
-    let n = count (c .before) in
-    let h = c .if1 .taken in
-    listing-short (es (c .before)) (now (s (c .before) .args .out)) (omega arith)
+    let n = counted (c .before) in
+    let k = c .if1 .taken in
+    listing-short (es (c .before)) (now (b (c .before) .args .out)) (omega arith)
 
-returns : tie.Need-returns-2
-returns c =
-    let k = c .before .before in
-    let i = k .before .before .before in
-    let g = i .before in
-    let n = count g in
-    let h = i .if1 .left in
-    listing-whole (es g) (now (s g .args .out)) (take (entryBytes * g .stage .result) (g .stage .last .1 .0)) (k .copy .last .1 .0) (g .stage .result) (omega arith) n
-    (first g) (k .copy .ensures .1)
+-- a buffer that is not too short has room
+room : (c : tie.Else1 I μ) → entryBytes * length (es (c .before)) ≤ length (now (b (c .before) .args .out))
+room c = let n = counted (c .before) in let k = c .if1 .left in omega arith
+
+rows-asked : tie.Need-put-rows-requires I μ
+rows-asked c κs =
+    let k = c .before .before .before .before in
+    let m = room k in
+    rw (same (k .before)) (omega arith, held (b (k .before)) .rows)
+
+whole : tie.Need-returns-2 I μ
+whole c =
+    let p = c .before .before in
+    let k = p .before .before .before .before .before in
+    listing-whole _ (room k) (counted (k .before)) (rw (same (k .before)) at (p .put-rows .ensures))
 
 pub list-spec : {M : Type 1} → statement M
 list-spec =
     tie.close
-    (tie.spec (λ c κs. search needs)
-    (λ c. let e = count c in let f = few c in omega arith)
-    short
-    (λ c. let e = count (c .before) in let f = few (c .before) in omega arith)
-    (λ c. let e = count (c .before) in let f = few (c .before) in let l = long (c .before) in omega arith)
-    (λ c. sym (part (c .before .before)))
-    (λ c κs. let e = part (c .before .before .before) in let h = c .before .before .if1 .left in omega arith)
-    (λ c. search needs) returns)
+    (tie.spec I μ
+    (λ c κs. let b = c .before .before .before .before .before in (parents b, held b .rows, ends (t b) (size b) (held b) (well b)))
+    starts row-asked
+    (λ c. let k = h c in let n = held (s (r c)) .rows in omega arith)
+    (λ c. let k = h c in let n = held (s (r c)) .rows in omega arith)
+    pairs-asked
+    (λ c κs. let p = c .before .before in let f = few p in (h (o p), held (a p) .rows, omega arith))
+    (λ c. let f = few (c .before .before .before) in let e = c .count-row .ensures in omega arith)
+    (λ c. let f = few (c .before .before .before) in let e = c .count-row .ensures in omega arith)
+    (λ c. let k = h (o (c .before .before .before)) in let n = held (a (c .before .before .before)) .rows in omega arith)
+    (λ c. let k = h (o (c .before .before .before)) in omega arith)
+    again
+    (λ c. let n = counted c in let f = entries-few (tableOf (t (b c))) (well (b c)) in omega arith)
+    short rows-asked (λ c. search needs) whole)

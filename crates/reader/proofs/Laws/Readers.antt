@@ -4,7 +4,7 @@
 use mathlib.Core.Path.{_≡_, refl, ap, sym, _∙_}
 use mathlib.Core.Bool.{Bool, true, false}
 use mathlib.Core.List.{List, [], _∷_, map}
-use Prim.Native.Nat.{ℕ, _≤_}
+use Prim.Native.Nat.{ℕ, suc, _≤_}
 use borrow.Author.Tests.{eqb-true, eq-eqb, ne-eqb}
 use native.Mathlib.Omega.{arith}
 use borrow.Author.Needs.{needs}
@@ -18,6 +18,7 @@ use Rattle.base.specs.Truths.{pick}
 use Rattle.policy.specs.Model.{Table}
 use Rattle.policy.specs.Views.{tableOf, Stands}
 use Rattle.base.specs.Answers.{Answer, returned, refusedBy}
+use Rattle.frames.specs.Refusals.{noLine, outOfSequence}
 use Rattle.frames.specs.Numbers.{Lent}
 use Rattle.frames.specs.Progress.{Progress, linesRead}
 use Rattle.reader.specs.States.{State, reading, refused, run, finish}
@@ -84,6 +85,22 @@ parsed-refused {r} {k} {n} h = record { same = go (eqb (r .number) 0) (h .same);
 pub parses-refused : (r : Reader) (lines : List (List ℕ)) (rest : List ℕ) → (r .number ≡ 0 → ⊥) → Ready r → Parses r (finish (run (stateOf r) lines) rest)
 unfolding finish
 parses-refused r lines rest n ready = record { same = rw (ne-eqb (r .number) 0 n) (rw (run-refused (r .number) (r .line) lines)); ready = ready }
+
+-- At the text's end, after a reader that is not refused, with what stands after the last line feed.
+module _ (r : Reader) (rest : List ℕ) (z : r .number ≡ 0) where
+  pub parses-unended : {next : Reader} → (length rest ≡ 0 → ⊥) → Reads next (refused noLine (suc (linesRead (progressOf r)))) → Parses next (finish (stateOf r) rest)
+  unfolding finish
+  parses-unended n h = rw (eq-eqb (r .number) 0 z) (rw (ne-eqb (length rest) 0 n) (parsed-refused h))
+
+  pub parses-early : {next : Reader} → length rest ≡ 0 → (r .floored ≡ 1 → ⊥) → Reads next (refused outOfSequence (suc (linesRead (progressOf r))))
+      → Parses next (finish (stateOf r) rest)
+  unfolding finish
+  parses-early e n h = rw (eq-eqb (r .number) 0 z) (rw (eq-eqb (length rest) 0 e, ne-eqb (r .floored) 1 n) (parsed-refused h))
+
+  pub parses-whole : length rest ≡ 0 → r .floored ≡ 1 → Ready r → Parses r (finish (stateOf r) rest)
+  unfolding finish
+  parses-whole e f ready =
+      record { same = rw (eq-eqb (r .number) 0 z) (rw (eq-eqb (length rest) 0 e, eq-eqb (r .floored) 1 f)); ready = ready }
 
 pub parses-moved : {r : Reader} {x y : Answer Table} → Parses r x → x ≡ y → Parses r y
 parses-moved h e = record { same = h .same ∙ e; ready = h .ready }

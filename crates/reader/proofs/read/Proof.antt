@@ -5,14 +5,15 @@ use mathlib.Core.Path.{_≡_}
 use mathlib.Core.List.{List, []}
 use Prim.Native.Nat.{ℕ, _+_, _-_, _≤_}
 use denote.Ref.{now}
-use lib.ListN.{length, take, drop}
+use lib.ListN.{length, take, drop, length-take, length-drop}
 use Rattle.reader.specs.Lines.{linesFrom, restFrom}
 use Rattle.base.specs.Answers.{Answer}
 use Rattle.policy.specs.Model.{Table}
 use Rattle.reader.specs.States.{State, run, finish, parse}
 use Rattle.reader.specs.Views.{stateOf, Ready}
+use Rattle.reader.specs.declared.Reader.{Reader}
 use Rattle.reader.proofs.Laws.Lines.{lines-feed, rest-feed, lines-other, rest-other, lines-end, rest-end, grown-line}
-use Rattle.reader.proofs.Laws.Readers.{going, parses-refused, parses-moved}
+use Rattle.reader.proofs.Laws.Readers.{going, parses-refused, parses-unended, parses-early, parses-whole, parses-moved}
 use Rattle.reader.proofs.read.Statement.{statement}
 use Rattle.reader.proofs.read.Tie as tie
 
@@ -72,20 +73,62 @@ other c =
           (rw (lines-other b t (l .i) h (c .if1 .left), rest-other b t (l .i) h (c .if1 .left)) at (l .inv .4)),
     )
 
-end : tie.Need-returns-2 I μ
-unfolding run
-end c =
-    let l = c .before .before .before .loop in
-    let t = now (c .before .before .before .before .before .before .args .text) in
-    let b = begun t (l .start) (l .i) in
-    let h : length t ≤ l .i = c .before .before .loop-test .left in
-    let e : l .i ≡ length t = omega (arith, l .inv .1) in
-    parses-moved (c .finish .ensures)
-    (rw (← e) (rw (lines-end b t (l .i) h, rest-end b t (l .i) h) at (l .inv .4)))
+-- at the text's end, what began after the last line feed is left
+module _ (c : tie.After-loop I μ) where
+  abbrev r : Reader
+  r = c .before .loop .r
+
+  abbrev text : List ℕ
+  text = now (c .before .before .before .before .args .text)
+
+  abbrev rest : List ℕ
+  rest = begun text (c .before .loop .start) (c .before .loop .i)
+
+  rest-length : length rest ≡ length text - c .before .loop .start
+  rest-length =
+      let n = c .loop-test .left in
+      let m = c .before .loop .inv .1 in
+      let k = length-drop (c .before .loop .start) text in
+      let e = length-take (c .before .loop .i - c .before .loop .start) (drop (c .before .loop .start) text) in
+      omega arith
+
+  ends : finish (stateOf r) rest ≡ parse text
+  unfolding run
+  ends =
+      let h = c .loop-test .left in
+      rw (lines-end rest text (c .before .loop .i) h, rest-end rest text (c .before .loop .i) h) at (c .before .loop .inv .4)
+
+  number : r .number ≡ 0
+  number = c .before .loop .inv .3
+
+unended : tie.Need-returns-2 I μ
+unended c =
+    let l = c .before .before in
+    let n = c .before .if3 .taken in
+    let e = rest-length l in
+    parses-moved (parses-unended (r l) (rest l) (number l) (λ z. omega arith) (c .refuse .ensures)) (ends l)
+
+-- no byte is left
+module _ (c : tie.Else3 I μ) where
+  none : length (rest (c .before)) ≡ 0
+  none = let n = c .if3 .left in let e = rest-length (c .before) in omega arith
+
+accepts : tie.Need-returns-3 I μ
+accepts c =
+    let e = c .before .before in
+    let l = e .before in
+    parses-moved (parses-whole (r l) (rest l) (number l) (none e) (c .if4 .taken) (l .before .loop .inv .2)) (ends l)
+
+early : tie.Need-returns-4 I μ
+early c =
+    let e = c .before .before .before in
+    let l = e .before in
+    parses-moved (parses-early (r l) (rest l) (number l) (none e) (c .before .if4 .left) (c .refuse2 .ensures)) (ends l)
 
 pub read-spec : {M : Type 1} → statement M
 read-spec =
     tie.close
     (tie.spec I μ (λ c κs. search needs) starts (λ c. search needs) (λ c. search needs) (λ c. search needs) (λ c. search needs) (λ c. search needs)
-    (λ c κs. search needs) refused (λ c. search needs) again (λ c. search needs) other (λ c. search needs) (λ c. search needs) (λ c. search needs)
-    (λ c κs. search needs) end)
+    (λ c κs. search needs) refused (λ c. search needs) again (λ c. search needs) other
+    (λ c κs. (c .before .before .loop .inv .2, search needs)) unended accepts
+    (λ c κs. (c .before .before .before .before .loop .inv .2, search needs)) early)

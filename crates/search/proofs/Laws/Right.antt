@@ -1,8 +1,8 @@
 -- The search is right: a packet that it finds is the least of the row's that no box claims, and where it finds none there is none.
--- In order: boxes of one size, the least high and the next candidate, what the boxes claim, the candidates of one field, the search.
+-- In order: boxes of one size, the least high, what the boxes claim, the least packet, the candidates of one field, the search.
 -- Assumes nothing.
 use Prim.Native.Nat.{ℕ, zero, suc, _+_, _-_, _≤_, _<_, min}
-use mathlib.Core.Path.{_≡_, refl}
+use mathlib.Core.Path.{_≡_, refl, subst}
 use mathlib.Core.Bool.{Bool, true, false, _&&_}
 use mathlib.Core.Logic.{inl, inr}
 use mathlib.Core.List.{List, [], _∷_, List·Memᴰ, List·Memᴰ·head, List·Memᴰ·tail, List·Memᴰ·not-nil, List·Memᴰ·cases-cons}
@@ -18,7 +18,7 @@ use Rattle.relations.specs.Ranges.{Within, within}
 use Rattle.relations.specs.Selectors.{Holds}
 use Rattle.base.proofs.Laws.Decides.{decides-leb, decides-ltb, decides-and, decides-holds}
 use Rattle.relations.proofs.Laws.Selectors.{within-decides, holds-both, holds-first, holds-rest, holds-nothing, not-longer, not-shorter}
-use Rattle.search.specs.Search.{first, narrow, lesser, least, value, last, next, SearchResult, found, none, or-later, onward, tries, from, search}
+use Rattle.search.specs.Search.{first, narrow, lesser, least, value, last, SearchResult, found, none, or-later, onward, tries, from, search}
 use Rattle.base.proofs.Laws.Passing.{passing-of, passing-in}
 use Rattle.search.specs.Least.{_≤ₚ_, done, less, same, Claimed, Least, Right}
 
@@ -34,7 +34,7 @@ pub sized-listed : (n : ℕ) (bs : List Selector) → ((b : Selector) → List·
 sized-listed n [] h = tt
 sized-listed n (b ∷ bs) h = (h b (List·Memᴰ·head refl), sized-listed n bs (λ c m. h c (List·Memᴰ·tail m)))
 
-sized-member : (n : ℕ) (bs : List Selector) → EachSized n bs → (b : Selector) → List·Memᴰ b bs → length b ≡ n
+pub sized-member : (n : ℕ) (bs : List Selector) → EachSized n bs → (b : Selector) → List·Memᴰ b bs → length b ≡ n
 sized-member n [] s b m = absurd (List·Memᴰ·not-nil m)
 sized-member n (c ∷ bs) s b m = elim (List·Memᴰ·cases-cons m) [ inl e ↦ rw e (s .0) | inr k ↦ sized-member n bs (s .1) b k ]
 
@@ -45,7 +45,7 @@ sized-narrow n v ((r ∷ b) ∷ bs) s =
     let rest = sized-narrow n v bs (s .1) in
     elim (within r v) as (λ t. EachSized n (pick t (b ∷ narrow v bs) (narrow v bs))) [ true ↦ (omega arith, rest) | false ↦ rest ]
 
--- ---- the least high, and the next candidate
+-- ---- the least high
 
 -- The lesser is at most m, and at most a high that is not below v; and it is below v only where m is.
 lesser-bounds : (v h m : ℕ) → (lesser v h m ≤ m) × (v ≤ h → lesser v h m ≤ h) × (min v m ≤ lesser v h m)
@@ -72,18 +72,6 @@ least-high v m (c ∷ bs) b i h = elim (List·Memᴰ·cases-cons i) [
   | inr k ↦ least-high v (lesser v (first c .high) m) bs b k h
 ]
 
--- The next candidate is above v, and at most the row's high.
-pub next-rises : (v high : ℕ) (bs : List Selector) (w : ℕ) → next v high bs ≡ value w → (v < w) × (w ≤ high)
-next-rises v high bs w e = go (ltb (least v high bs) high) refl e
-  where
-    go : (t : Bool) → ltb (least v high bs) high ≡ t → pick t (value (least v high bs + 1)) last ≡ value w → (v < w) × (w ≤ high)
-    go true l s =
-        let h = ltb-true (least v high bs) high l in
-        let k = least-from v high bs in
-        let q : least v high bs + 1 ≡ w = cc in
-        (omega arith, omega arith)
-    go false l s = let z : _≡_ {A = ℕ} 0 1 = cc in absurd (omega arith)
-
 -- ---- what the boxes claim
 
 -- A box that holds v in its first field is narrowed to its further fields.
@@ -109,6 +97,39 @@ narrow-claims v bs q c = go (c .box) (c .listed) (c .holds)
     go : (b : Selector) → List·Memᴰ b bs → Holds b (v ∷ q) → Claimed (narrow v bs) q
     go [] i h = absurd (not-longer v q h)
     go (r ∷ b) i h = record { box = b; listed = narrow-in v bs r b (holds-first r b v q h) i; holds = holds-rest r b v q h }
+
+-- ---- the least packet that is not claimed, whatever claims
+
+pub record LeastOf (C : Packet → Type 0) (s : Selector) (p : Packet) : Type 0 where
+  pub inside : Holds s p
+  pub unclaimed : C p → ⊥
+  pub least : (q : Packet) → Holds s q → (C q → ⊥) → p ≤ₚ q
+
+to-least : {s : Selector} {bs : List Selector} {p : Packet} → Least s bs p → LeastOf (Claimed bs) s p
+to-least m = record { inside = m .inside; unclaimed = m .unclaimed; least = m .least }
+
+of-least : {s : Selector} {bs : List Selector} {p : Packet} → LeastOf (Claimed bs) s p → Least s bs p
+of-least m = record { inside = m .inside; unclaimed = m .unclaimed; least = m .least }
+
+-- With v in the first field, where what claims with v there is C′, and each packet below v is claimed.
+pub least-here : (C C′ : Packet → Type 0) (r : Range) (rs : Selector) (v : ℕ) (p : Packet) → Within r v → ((q : Packet) → C (v ∷ q) → C′ q)
+    → ((q : Packet) → C′ q → C (v ∷ q)) → ((x : ℕ) (q : Packet) → r .low ≤ x → x < v → Holds rs q → C (x ∷ q)) → LeastOf C′ rs p
+    → LeastOf C (r ∷ rs) (v ∷ p)
+least-here C C′ r rs v p w to of passed m = record {
+  inside = holds-both r rs v p w (m .inside);
+  unclaimed = λ c. m .unclaimed (to p c);
+  least = lowest;
+}
+  where
+    lowest : (q : Packet) → Holds (r ∷ rs) q → (C q → ⊥) → (v ∷ p) ≤ₚ q
+    lowest [] t f = absurd (not-shorter r rs t)
+    lowest (x ∷ q) t f = elim (decLt v x) [
+      | yes a ↦ less a
+      | no a ↦ elim (decLt x v) [
+        | yes b ↦ absurd (f (passed x q (holds-first r rs x q t .low) b (holds-rest r rs x q t)))
+        | no b ↦ let e : v ≡ x = omega arith in same e (m .least q (holds-rest r rs x q t) (λ c. f (subst (λ (y : ℕ). C (y ∷ q)) e (of q c))))
+      ]
+    ]
 
 -- ---- the candidates of one field
 
@@ -138,24 +159,11 @@ module _ (r : Range) (rs : Selector) (bs : List Selector) (sized : EachSized (su
 
   -- What is found at v, where all before it is claimed, is the least.
   here : (v : ℕ) (p : Packet) → Within r v → Passed v → Least rs (narrow v bs) p → Least (r ∷ rs) bs (v ∷ p)
-  here v p w g m = record {
-    inside = holds-both r rs v p w (m .inside);
-    unclaimed = λ c. m .unclaimed (narrow-claims v bs p c);
-    least = lowest;
-  }
-    where
-      lowest : (q : Packet) → Holds (r ∷ rs) q → (Claimed bs q → ⊥) → (v ∷ p) ≤ₚ q
-      lowest [] t f = absurd (not-shorter r rs t)
-      lowest (x ∷ q) t f = elim (decLt v x) [
-        | yes a ↦ less a
-        | no a ↦ elim (decLt x v) [
-          | yes b ↦ absurd (f (g x q (holds-first r rs x q t .low) b (holds-rest r rs x q t)))
-          | no b ↦
-              let e : v ≡ x = omega arith in
-              let k = least-from v (r .high) bs in
-              same e (m .least q (holds-rest r rs x q t) (λ c. f (claims-reach v x q (omega arith) (omega arith) c)))
-        ]
-      ]
+  here v p w g m =
+      let k = least-from v (r .high) bs in
+      let i = w .high in
+      of-least
+      (least-here (Claimed bs) (Claimed (narrow v bs)) r rs v p w (narrow-claims v bs) (λ q. claims-reach v v q (omega arith) (omega arith)) g (to-least m))
 
   -- n candidates are enough where n reaches past the row's high.
   tries-right : (rest : List Selector → SearchResult) → ((v : ℕ) → Right rs (narrow v bs) (rest (narrow v bs)))

@@ -1,6 +1,6 @@
 -- `bitsOf` meets its contract: from the last test on, the number of those that were seen. Assumes nothing.
 use borrow.Author.Needs.{needs}
-use Prim.Native.Nat.{ℕ, _+_, _-_, _*_, _^_, _≤_, _<_}
+use Prim.Native.Nat.{ℕ, _+_, _-_, _^_, _≤_, _<_}
 use mathlib.Core.Path.{_≡_, sym, ap, _∙_}
 use mathlib.Core.Bool.{false}
 use native.Mathlib.Omega.{arith}
@@ -9,8 +9,8 @@ use lib.ListN.{getD, drop, length-drop}
 use Rattle.base.specs.Truths.{bit}
 use Rattle.base.proofs.Laws.Passing.{bit-le}
 use Rattle.kinds.specs.Kinds.{kindCount}
-use Rattle.listing.specs.Marks.{bitsOf}
-use Rattle.listing.proofs.Laws.Numbers.{bits-end, bits-next, bits-small}
+use Rattle.base.specs.Bits.{bitsOf}
+use Rattle.base.proofs.Laws.Bits.{bits-end, bits-step, bits-small}
 use Rattle.listing.proofs.marks.bits_of.Statement.{statement}
 use Rattle.listing.proofs.marks.bits_of.Tie as tie
 
@@ -35,17 +35,8 @@ again c =
     let l = c .before .before .before in
     let h = c .before .before .loop-test .taken in
     let i = l .loop .inv .0 in
-    let bs = now (l .before .args .holds) in
-    let k = l .loop .k - 1 in
     let e = l .before .pre in
-    let d : k + 1 ≡ l .loop .k = omega arith in (
-      omega arith,
-      sym
-          (bits-next bs k (omega arith)
-          ∙ ap (λ (x : ℕ). 2 * bitsOf (drop x bs) + bit (getD bs k false)) d
-          ∙ ap (λ (x : ℕ). 2 * x + bit (getD bs k false)) (sym (l .loop .inv .1))
-          ∙ ap (λ (x : ℕ). 2 * l .loop .m + x) (sym (c .bit .ensures))),
-    )
+    (omega arith, bits-step (now (l .before .args .holds)) (l .loop .k) (l .loop .m) (c .bit .result) h (omega arith) (l .loop .inv .1) (c .bit .ensures))
 
 returns : tie.Need-returns I μ
 returns c =

@@ -1,25 +1,27 @@
 -- `of_pair` meets its contract: of boxes that overlap it asks for each kind, and of others there are none. Assumes nothing.
 use borrow.Author.Needs.{needs}
 use borrow.Author.Tests.{not-true, not-false}
+use Prim.Native.Nat.{_+_}
 use mathlib.Core.Path.{refl, sym, ap, _∙_}
 use denote.Ref.{now}
 use Rattle.policy.specs.Views.{parentIn}
 use Rattle.kinds.specs.Views.{placedOf}
-use Rattle.kinds.specs.Kinds.{pairTests}
+use Rattle.kinds.specs.Kinds.{kindCount, pairTests}
 use Rattle.kinds.specs.declared.pair.Pair.{Pair}
 use Rattle.kinds.proofs.Laws.Apart.{apart-none}
-use Rattle.listing.specs.Marks.{bitsOf}
+use Rattle.base.specs.Bits.{bitsOf}
+use Rattle.base.proofs.Laws.Bits.{bits-none}
 use Rattle.listing.proofs.marks.of_pair.Statement.{statement}
 use Rattle.listing.proofs.marks.of_pair.Tie as tie
 
 apart : tie.Need-returns
-unfolding bitsOf
 apart c =
     let s = c .before .before in
     sym
     (ap bitsOf
     (apart-none (parentIn (now (s .args .parents))) (s .args .i) (s .args .j) (placedOf (s .args .p)) (placedOf (s .args .q)) (s .pre .1 .ordered) (s .pre .2 .ordered)
-    (sym (c .before .overlaps .ensures) ∙ not-true _ (c .if1 .taken))))
+    (sym (c .before .overlaps .ensures) ∙ not-true _ (c .if1 .taken)))
+    ∙ bits-none (kindCount + 1))
 
 asked : tie.Need-pair-of-requires
 asked c κs =

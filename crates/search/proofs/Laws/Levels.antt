@@ -1,0 +1,212 @@
+-- One field of the search in the code: the boxes that hold the packet so far, the cover that is recalled or found for a value, and the next candidate.
+-- Assumes nothing.
+use Prim.Native.Nat.{ℕ, zero, suc, _-_, _^_, _≤_, _<_, min}
+use mathlib.Core.Path.{_≡_, refl, sym, ap, subst, _∙_}
+use mathlib.Core.Bool.{true, false, true≢false}
+use mathlib.Core.Logic.{_⊎_, inl, inr}
+use mathlib.Core.List.{List, [], _∷_, List·Memᴰ, List·Memᴰ·not-nil, List·Memᴰ·cases-cons, map, Memᴰ·map, Memᴰ·of-map}
+use native.Mathlib.Omega.{arith}
+use lib.Bits.{bitOr}
+use lib.ListN.{length, take, replicate, length-replicate, length-take, length-map}
+use lib.Pow.{ones-lt}
+use lib.Seq.{getD-take}
+use Rattle.base.specs.Bits.{marked}
+use Rattle.base.proofs.Laws.Bits.{small-marked, within-marked, none-marked, one-marked, one-alone, ones-marked}
+use Rattle.base.proofs.Laws.Members.{member-at, at-member}
+use Rattle.policy.specs.Model.{Range, Selector, Packet}
+use Rattle.policy.specs.Views.{value as valueOf, rangeIn}
+use Rattle.policy.specs.declared.number.Number.{Number}
+use Rattle.relations.specs.Ranges.{within}
+use Rattle.relations.specs.Selectors.{Holds}
+use Rattle.relations.proofs.Laws.Selectors.{holds-nothing, not-longer}
+use Rattle.search.specs.Least.{_≤ₚ_, done, Claimed, Right}
+use Rattle.search.specs.Search.{value, found, none}
+use Rattle.search.specs.Views.{BoxNumbers, candidateOf}
+use Rattle.search.specs.Covers.{In, HeldBy, Covers, Numbered, boxOf, fieldOf, highs, Narrowed, Follows, opening, Furthest, keptCovers, recall, shifted}
+use Rattle.search.specs.declared.Boxes.{Boxes}
+use Rattle.search.specs.declared.Next.{Next}
+use Rattle.search.specs.declared.Next.the-variants.{Value, Last}
+use Rattle.search.proofs.Laws.Right.{EachSized, sized-listed, LeastOf}
+use Rattle.search.proofs.Laws.Sets.{or-old, or-new, or-in}
+use Rattle.search.proofs.Laws.Kept.{recall-within, recall-kept, shifted-kept, length-shifted}
+use Rattle.search.proofs.Laws.Walks.{Walked, walked-start, walked-next, walked-found, left, left-falls, risen}
+
+-- ---- the covers that are kept
+
+-- Each is a cover of s, or none.
+pub record Keeps (box : ℕ → Selector) (s : Selector) (kept : List ℕ) : Type 0 where
+  pub long : length kept ≡ keptCovers
+  pub each : (c : ℕ) → List·Memᴰ c kept → (c ≡ 0) ⊎ Covers box s c
+
+pub keeps-none : (box : ℕ → Selector) (s : Selector) → Keeps box s (replicate keptCovers 0)
+keeps-none box s = record { long = length-replicate {A = ℕ} keptCovers 0; each = λ c m. inl (zeros keptCovers c m) }
+  where
+    zeros : (n c : ℕ) → List·Memᴰ c (replicate n 0) → c ≡ 0
+    zeros zero c m = absurd (List·Memᴰ·not-nil m)
+    zeros (suc n) c m = elim (List·Memᴰ·cases-cons m) [ inl e ↦ e | inr k ↦ zeros n c k ]
+
+pub keeps-more : (box : ℕ → Selector) (s : Selector) (c : ℕ) (kept after : List ℕ) → Keeps box s kept → Covers box s c → after ≡ shifted c c kept → Keeps box s after
+keeps-more box s c kept after k d e =
+    subst (Keeps box s) (sym e)
+    (record {
+      long = length-shifted c c kept ∙ k .long;
+      each = λ x m. elim (shifted-kept c c kept x m) [ inl i ↦ inr (subst (Covers box s) (sym i) d) | inr n ↦ k .each x n ];
+    })
+
+-- ---- one field of the boxes
+
+module _ (bounds at : List ℕ) where
+  -- The boxes of c, which are of those that hold the packet so far, cover the fields fs, whose ranges in the row are s.
+  pub record Fails (fs : List ℕ) (s : Selector) (a c : ℕ) : Type 0 where
+    pub part : (k : ℕ) → In c k → In a k
+    pub covers : Covers (boxOf bounds at fs) s c
+
+  -- One box that is left covers what is past the last field, nothing.
+  pub fails-last : (high : ℕ → ℕ) (a one : ℕ) → Furthest high a one → Fails [] [] a one
+  fails-last high a one f = record {
+    part = λ k h.
+        let e = one-alone (f .place) k (sym (ap (λ (m : ℕ). marked m k) (f .alone)) ∙ h) in
+        subst (In a) (sym e) (f .among);
+    covers = λ q h. record {
+      place = f .place;
+      choice = ap (λ (m : ℕ). marked m (f .place)) (f .alone) ∙ one-marked (f .place);
+      holds = h;
+    };
+  }
+
+  -- Field f and the fields fs after it, whose ranges in the row are r and rs.
+  module _ (f : ℕ) (fs : List ℕ) (r : Range) (rs : Selector) where
+    -- A cover that is recalled is one, of boxes that hold the packet so far.
+    pub level-start : (a c : ℕ) (kept : List ℕ) (n : Next) → Keeps (boxOf bounds at (f ∷ fs)) (risen r ∷ rs) kept → c ≡ recall a kept → candidateOf n ≡ opening c (r .low)
+        → Walked (boxOf bounds at (f ∷ fs)) r rs (In a) (In c) (candidateOf n)
+    level-start a c kept n k e o =
+        subst (Walked (boxOf bounds at (f ∷ fs)) r rs (In a) (In c)) (sym o)
+        (walked-start (boxOf bounds at (f ∷ fs)) r rs c (λ j. within-marked c a j (rw e (recall-within a kept)))
+        (elim (recall-kept a kept) [
+          | inl z ↦ inl (e ∙ z)
+          | inr m ↦ rw e (k .each (recall a kept) m)
+        ]))
+
+    -- Where there is no candidate left the boxes hold each packet of this field and those after it.
+    pub level-end : (P K : ℕ → Type 0) (n : Next) → Walked (boxOf bounds at (f ∷ fs)) r rs P K (candidateOf n) → n ≡ Last → (q : Packet) → Holds (risen r ∷ rs) q
+        → HeldBy (boxOf bounds at (f ∷ fs)) K q
+    level-end P K n w e = subst (λ (m : Next). Walked (boxOf bounds at (f ∷ fs)) r rs P K (candidateOf m)) e w .held
+
+    pub level-fails : (a c : ℕ) (n : Next) → Walked (boxOf bounds at (f ∷ fs)) r rs (In a) (In c) (candidateOf n) → n ≡ Last → Fails (f ∷ fs) (risen r ∷ rs) a c
+    level-fails a c n w e = record { part = w .part; covers = level-end (In a) (In c) n w e }
+
+    -- The field stands at the value v, and of the boxes P those of a hold it.
+    pub record Stands (P K : ℕ → Type 0) (n : Next) (v : Number) (a : ℕ) : Type 0 where
+      pub walked : Walked (boxOf bounds at (f ∷ fs)) r rs P K (candidateOf n)
+      pub value-is : n ≡ Value v
+      pub narrowed : Narrowed (fieldOf bounds at f) P (valueOf v) (In a)
+
+    here : {P K : ℕ → Type 0} (n : Next) {v : Number} {a : ℕ} → Stands P K n v a → Walked (boxOf bounds at (f ∷ fs)) r rs P K (value (valueOf v))
+    here {P} {K} n s = subst (λ (m : Next). Walked (boxOf bounds at (f ∷ fs)) r rs P K (candidateOf m)) (s .value-is) (s .walked)
+
+    -- The value v comes to nothing by the cover c.
+    module _ {P K : ℕ → Type 0} (n n′ : Next) {v : Number} {a c : ℕ} (s : Stands P K n v a) (u : Fails fs rs a c)
+        (o : Follows (highs bounds at f) c (r .high) (candidateOf n′)) where
+      low : min (valueOf v) (r .high) ≤ o .least
+      low = elim (o .reaches .reached) [
+        | inl e ↦ omega (arith, e)
+        | inr x ↦ let h = s .narrowed .holds (x .0) (u .part (x .0) (x .1)) .high in omega (arith, h, x .2)
+      ]
+
+      next : {M : ℕ → Type 0} → ((k : ℕ) → K k → M k) → ((k : ℕ) → In c k → M k) → ((k : ℕ) → M k → P k)
+          → Walked (boxOf bounds at (f ∷ fs)) r rs P M (candidateOf n′)
+      next {M} old new within =
+          subst (Walked (boxOf bounds at (f ∷ fs)) r rs P M) (sym (o .next))
+          (walked-next (boxOf bounds at (f ∷ fs)) (boxOf bounds at fs) (fieldOf bounds at f) (λ k. refl) r rs (valueOf v) (o .least) (here n s) (s .narrowed) (u .part) (u .covers)
+          (o .reaches .each) low old new within)
+
+      pub level-falls : left (r .high) (candidateOf n′) < left (r .high) (candidateOf n)
+      level-falls = rw (o .next, s .value-is) (left-falls (valueOf v) (o .least) (r .high) low)
+
+    -- The cover is added to that of the values before; of the first field all boxes are taken for the cover.
+    pub level-next : {P : ℕ → Type 0} (n n′ : Next) {v : Number} (k : ℕ) {a c : ℕ} → Stands P (In k) n v a → Fails fs rs a c
+        → Follows (highs bounds at f) c (r .high) (candidateOf n′) → Walked (boxOf bounds at (f ∷ fs)) r rs P (In (bitOr k c)) (candidateOf n′)
+    level-next n n′ {v} k {a} {c} s u o =
+        next n n′ s u o (or-old k c) (or-new k c)
+        (λ j i. elim (or-in k c j i) [ inl x ↦ s .walked .part j x | inr y ↦ s .narrowed .part j (u .part j y) ])
+
+    pub first-next : {P : ℕ → Type 0} (n n′ : Next) {v : Number} {a c : ℕ} → Stands P P n v a → Fails fs rs a c
+        → Follows (highs bounds at f) c (r .high) (candidateOf n′) → Walked (boxOf bounds at (f ∷ fs)) r rs P P (candidateOf n′)
+    first-next n n′ s u o = next n n′ s u o (λ j i. i) (λ j i. s .narrowed .part j (u .part j i)) (λ j i. i)
+
+    -- What is found below the value is the least with it.
+    pub level-found : {P K : ℕ → Type 0} (n : Next) {v : Number} {a : ℕ} (p : Packet) → Stands P K n v a
+        → LeastOf (HeldBy (boxOf bounds at fs) (In a)) rs p → LeastOf (HeldBy (boxOf bounds at (f ∷ fs)) P) (risen r ∷ rs) (valueOf v ∷ p)
+    level-found n p s m =
+        walked-found (boxOf bounds at (f ∷ fs)) (boxOf bounds at fs) (fieldOf bounds at f) (λ k. refl) r rs _ p (here n s) (s .narrowed) m
+
+-- Where no box is left past the last field the packet is found.
+pub last-found : (box : ℕ → Selector) (a : ℕ) → a ≡ 0 → LeastOf (HeldBy box (In a)) [] []
+last-found box a e = record {
+  inside = holds-nothing;
+  unclaimed = λ h. true≢false (sym (h .choice) ∙ ap (λ (m : ℕ). marked m (h .place)) e ∙ none-marked (h .place));
+  least = lowest;
+}
+  where
+    lowest : (q : Packet) → Holds [] q → (HeldBy box (In a) q → ⊥) → [] ≤ₚ q
+    lowest [] h f = done
+    lowest (x ∷ q) h f = absurd (not-longer x q h)
+
+-- ---- the answer
+
+-- The listed boxes in the fields fs.
+abbrev pub boxesOf : List ℕ → Boxes → List ℕ → List Selector
+boxesOf bounds cover fs = map (λ k. map (rangeIn bounds k) fs) (take (cover .count) (cover .at))
+
+-- All boxes of the list.
+module _ (bounds : List ℕ) (fs : List ℕ) (cover : Boxes) (ok : BoxNumbers cover) (all : ℕ) (e : all ≡ 2 ^ cover .count - 1) where
+  listed : (k : ℕ) → In all k → k < cover .count
+  listed k h = small-marked (cover .count) all k (rw e (ones-lt (cover .count))) h
+
+  in-list : (k : ℕ) → k < cover .count → In all k
+  in-list k h = ap (λ (m : ℕ). marked m k) e ∙ ones-marked (cover .count) k h
+
+  pub all-numbered : Numbered (cover .at) all
+  all-numbered k h = ok .within k (listed k h)
+
+  length-taken : length (take (cover .count) (cover .at)) ≡ cover .count
+  length-taken = simp length-take (omega (arith, ok .long, ok .few))
+
+  -- A box of the list is one that is claimed by.
+  held-claimed : (q : Packet) → HeldBy (boxOf bounds (cover .at) fs) (In all) q → Claimed (boxesOf bounds cover fs) q
+  held-claimed q h =
+      let m = listed (h .place) (h .choice) in
+      let l : h .place < length (take (cover .count) (cover .at)) = rw length-taken m in
+      record {
+        box = boxOf bounds (cover .at) fs (h .place);
+        listed =
+            Memᴰ·map (λ k. map (rangeIn bounds k) fs)
+            (subst (λ (i : ℕ). List·Memᴰ i (take (cover .count) (cover .at))) (getD-take (cover .count) (cover .at) (h .place) 0 m) (at-member 0 (take (cover .count) (cover .at)) (h .place) l));
+        holds = h .holds;
+      }
+
+  claimed-held : (q : Packet) → Claimed (boxesOf bounds cover fs) q → HeldBy (boxOf bounds (cover .at) fs) (In all) q
+  claimed-held q h =
+      let i = Memᴰ·of-map (λ k. map (rangeIn bounds k) fs) (take (cover .count) (cover .at)) (h .listed) in
+      let k = member-at 0 (i .0) (take (cover .count) (cover .at)) (i .1) in
+      let l : k .0 < cover .count = rw length-taken at (k .1) in
+      record {
+        place = k .0;
+        choice = in-list (k .0) l;
+        holds = subst (λ (b : Selector). Holds b q) (sym (ap (λ k. map (rangeIn bounds k) fs) (sym (getD-take (cover .count) (cover .at) (k .0) 0 l) ∙ k .2) ∙ i .2)) (h .holds);
+      }
+
+  pub found-right : (s : Selector) (p : Packet) → LeastOf (HeldBy (boxOf bounds (cover .at) fs) (In all)) s p → Right s (boxesOf bounds cover fs) (found p)
+  found-right s p m = record {
+    inside = m .inside;
+    unclaimed = λ c. m .unclaimed (claimed-held p c);
+    least = λ q h f. m .least q h (λ c. f (held-claimed q c));
+  }
+
+  pub none-right : (s : Selector) → ((q : Packet) → Holds s q → HeldBy (boxOf bounds (cover .at) fs) (In all) q) → Right s (boxesOf bounds cover fs) none
+  none-right s h q t = held-claimed q (h q t)
+
+pub boxes-sized : (bounds fs : List ℕ) (cover : Boxes) → EachSized (length fs) (boxesOf bounds cover fs)
+boxes-sized bounds fs cover =
+    sized-listed (length fs) (boxesOf bounds cover fs)
+    (λ b m. let i = Memᴰ·of-map (λ k. map (rangeIn bounds k) fs) (take (cover .count) (cover .at)) m in subst (λ (c : Selector). length c ≡ length fs) (i .2) (length-map fs (rangeIn bounds (i .0))))

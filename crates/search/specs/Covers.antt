@@ -1,0 +1,102 @@
+-- Covers: what a part of the search that finds nothing has learnt. A set of boxes is a number: bit k is 1 where the box at place k of the list
+-- is in it.
+-- Assumes nothing.
+use Prim.Native.Nat.{ℕ, _+_, _^_, _≤_, _<_}
+use mathlib.Core.Path.{_≡_}
+use mathlib.Core.Bool.{true, _||_}
+use mathlib.Core.Logic.{_⊎_}
+use mathlib.Core.List.{List, [], _∷_, map}
+use lib.Bits.{bitAnd}
+use lib.Dec.{eqb, ltb}
+use lib.ListN.{getD}
+use Rattle.base.specs.Truths.{pick}
+use Rattle.base.specs.Bits.{marked}
+use Rattle.policy.specs.Limits.{mostSelectors}
+use Rattle.policy.specs.Model.{Range, Selector, Packet}
+use Rattle.policy.specs.Views.{rangeIn}
+use Rattle.relations.specs.Ranges.{Within}
+use Rattle.relations.specs.Selectors.{Holds}
+use Rattle.search.specs.Search.{Candidate, value, last}
+
+-- ---- what a cover is
+
+-- The box at place k is in the set.
+abbrev pub In : ℕ → ℕ → Type 0
+In set k = marked set k ≡ true
+
+-- One of the boxes that are chosen has the packet.
+pub record HeldBy (box : ℕ → Selector) (chosen : ℕ → Type 0) (q : Packet) : Type 0 where
+  pub place : ℕ
+  pub choice : chosen place
+  pub holds : Holds (box place) q
+
+-- A cover of s: together its boxes hold every packet of s.
+abbrev pub Covers : (ℕ → Selector) → Selector → ℕ → Type 0
+Covers box s set = (q : Packet) → Holds s q → HeldBy box (In set) q
+
+-- ---- the boxes of a set
+
+-- They are selectors, by their numbers.
+abbrev pub Numbered : (at : List ℕ) (set : ℕ) → Type 0
+Numbered at set = (k : ℕ) → In set k → getD at k 0 < mostSelectors
+
+-- The fields fs of the box at place k, in their order, its field f, and the high of that.
+abbrev pub boxOf : (bounds at fs : List ℕ) (k : ℕ) → Selector
+boxOf bounds at fs k = map (rangeIn bounds (getD at k 0)) fs
+
+abbrev pub fieldOf : (bounds at : List ℕ) (f k : ℕ) → Range
+fieldOf bounds at f k = rangeIn bounds (getD at k 0) f
+
+abbrev pub highs : (bounds at : List ℕ) (f k : ℕ) → ℕ
+highs bounds at f k = fieldOf bounds at f k .high
+
+-- Of the boxes P those whose field holds v are Q.
+pub record Narrowed (field : ℕ → Range) (P : ℕ → Type 0) (v : ℕ) (Q : ℕ → Type 0) : Type 0 where
+  pub part : (k : ℕ) → Q k → P k
+  pub holds : (k : ℕ) → Q k → Within (field k) v
+  pub all : (k : ℕ) → P k → Within (field k) v → Q k
+
+-- ---- how far a cover reaches
+
+-- m is the least of `top` and the highs of the boxes of the set.
+pub record Reaches (high : ℕ → ℕ) (set top m : ℕ) : Type 0 where
+  pub most : m ≤ top
+  pub each : (k : ℕ) → In set k → m ≤ high k
+  pub reached : (m ≡ top) ⊎ ((k : ℕ) × In set k × (m ≡ high k))
+
+-- The candidate past m, where that is below the row's high.
+abbrev pub past : ℕ → ℕ → Candidate
+past m high = pick (ltb m high) (value (m + 1)) last
+
+-- The candidate after the values that a cover takes: one past its least high.
+pub record Follows (high : ℕ → ℕ) (set top : ℕ) (n : Candidate) : Type 0 where
+  pub least : ℕ
+  pub reaches : Reaches high set top least
+  pub next : n ≡ past least top
+
+-- The first candidate of a field for which this cover is known: none, and the row's low where none is known.
+abbrev pub opening : ℕ → ℕ → Candidate
+opening cover low = pick (eqb cover 0) (value low) last
+
+-- One box of the set alone, and none of them has a greater high.
+pub record Furthest (high : ℕ → ℕ) (set one : ℕ) : Type 0 where
+  pub place : ℕ
+  pub alone : one ≡ 2 ^ place
+  pub among : In set place
+  pub furthest : (k : ℕ) → In set k → high k ≤ high place
+
+-- ---- covers that are kept
+
+-- How many are kept for a field.
+abbrev pub keptCovers : ℕ
+keptCovers = 32
+
+-- The first of the kept covers whose boxes are all in the set. 0 stands for no cover, and ends them.
+unfoldable pub recall : ℕ → List ℕ → ℕ
+recall set [] = 0
+recall set (c ∷ cs) = pick (eqb (bitAnd c set) c) c (recall set cs)
+
+-- The covers with x before them: each goes to the place of the next, up to one that is 0 or c, which goes.
+unfoldable pub shifted : ℕ → ℕ → List ℕ → List ℕ
+shifted c x [] = []
+shifted c x (y ∷ ys) = x ∷ pick (eqb y 0 || eqb y c) ys (shifted c y ys)
