@@ -33,7 +33,7 @@ extern "C" {
 const SOURCE: u8 = 0;
 
 /// A buffer of this many bytes holds any list and any struck text.
-pub const OUT_BYTES: usize = 38_400;
+pub const OUT_BYTES: usize = 41_376;
 
 #[derive(Clone, Copy, Debug)]
 pub enum Call {

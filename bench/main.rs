@@ -32,6 +32,8 @@ mod dead;
 mod draft;
 #[path = "../tests/second/families.rs"]
 mod families;
+#[path = "../tests/second/filters.rs"]
+mod filters;
 #[path = "../tests/second/frames.rs"]
 mod frames;
 #[path = "../tests/second/grid.rs"]

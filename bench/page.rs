@@ -33,6 +33,7 @@ pub fn print(library: &str) -> bool {
     let families = families.map(|(name, make)| SIZES.map(|rows| measure(name, make(rows))));
     let [[.., typical], [.., layers], [.., slabs], [.., split_slabs]] = &families;
     let fullest = measure("fullest", tables::fullest());
+    let largest_list = measure("largest list", tables::largest_list());
     let measure_stored = |&(name, text): &(&'static str, _)| {
         measure(name, read(text).expect("stored tables are lawful"))
     };
@@ -40,7 +41,8 @@ pub fn print(library: &str) -> bool {
     let stored: Vec<Measured> = STORED.iter().map(measure_stored).collect();
     let worst = [layers, &chains, slabs, split_slabs].into_iter();
     let worst: Vec<&Measured> = worst.chain(&stored).collect();
-    print_calls([typical, &fullest].into_iter().chain(worst.iter().copied()));
+    let full = [typical, &fullest, &largest_list].into_iter();
+    print_calls(full.chain(worst.iter().copied()));
     families.iter().for_each(|family| print_growth(family));
     prefix_lists();
     let mut targets = vec![Target {
@@ -57,7 +59,7 @@ pub fn print(library: &str) -> bool {
         families
             .iter()
             .flatten()
-            .chain([&fullest, &chains])
+            .chain([&fullest, &largest_list, &chains])
             .chain(&stored),
     ));
     targets::print(&targets)

@@ -87,7 +87,11 @@ pub fn typical(rows: usize) -> Table {
         selector[0] = network(0x0A00_0000, f);
         selector[3] = range(80, 80);
         let root = (4 * (f * 7 % nodes)) as u8;
-        table.filters.push(Filter { root, selector });
+        table.filters.push(Filter {
+            root,
+            selector,
+            written: None,
+        });
     }
     for k in 0..rows {
         let (from, to) = (k * 5 % nodes, (k * 11 + 3) % nodes);
@@ -128,6 +132,12 @@ pub fn fullest() -> Table {
         };
     }
     table
+}
+
+/// The table that has the largest list: each two of its 64 rows have as many entries as two can have, and so have each two of its 32
+/// filters.
+pub fn largest_list() -> Table {
+    read(include_bytes!("../crates/answers/data/largest_list")).expect("stored tables are lawful")
 }
 
 /// Worst for kind 19: rows from the first root to the last, and the others in four layers from root to root, whose last layer

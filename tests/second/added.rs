@@ -1,12 +1,12 @@
 //! What is promised of rows added at the end held against what the proved program prints: each old row keeps its dead mark or its
-//! witness, and a probe that had a winner keeps that winner. Every other entry of old rows stands too.
+//! witness, and a probe that had a winner keeps that winner. Every other entry of old rows stands too, and so do those of filters.
 //!
 //! Nothing of the second implementation's methods is used: a text is cut at its lines, and what was printed before and after is
 //! compared line by line. Kinds 12, 16 and 19, pairs with a new row and probes that had no winner are left out: they may change.
 
 use crate::printed::Answers;
 use crate::probes::Probe;
-use crate::promises::{bytes, dead_rows, ensure, nth_line};
+use crate::promises::{dead_rows, ensure, entries, nth_line, of_filters};
 
 /// What a row's line begins with.
 const ROW: &[u8] = b"05";
@@ -56,25 +56,24 @@ fn check_rows(rows: usize, before: &Answers, after: &Answers) -> Result<(), Stri
     Ok(())
 }
 
-/// Checks that the entries of old rows stand, but for those of kinds that may change.
+/// Checks that the entries of old rows stand, but for those of kinds that may change, and then those of filters.
 fn check_entries(rows: usize, old: &[u8], new: &[u8]) -> Result<(), String> {
     ensure(standing(rows, old) == standing(rows, new), || {
-        "an entry of old rows comes or goes that is of none of the kinds that may change".into()
+        "an entry of old rows or of filters comes or goes that is of none of the kinds that may change"
+            .into()
     })
 }
 
-/// The listed entries that have the numbers of old rows alone and are of none of the kinds that may change.
+/// The listed entries of filters, and those that have the numbers of old rows alone and are of none of the kinds that may change.
 fn standing(rows: usize, list: &[u8]) -> Vec<Vec<u8>> {
     let old = |row: u8| usize::from(row) < rows;
-    list.split(|&c| c == b'\n')
-        .map(bytes)
-        .filter(|entry| match entry[..] {
-            [row, kind, second] => {
-                old(row) && (old(second) || second == NO_SECOND) && !MAY_CHANGE.contains(&kind)
-            }
-            _ => false,
-        })
-        .collect()
+    let stands = |entry: &Vec<u8>| {
+        of_filters(entry)
+            || old(entry[0])
+                && (old(entry[2]) || entry[2] == NO_SECOND)
+                && !MAY_CHANGE.contains(&entry[1])
+    };
+    entries(list).filter(stands).collect()
 }
 
 /// Checks that each probe that names an old row and had a winner keeps it.
@@ -99,10 +98,14 @@ mod tests {
     use crate::printed::answers;
     use crate::questions::Questions;
 
-    /// Six roots, caps, a floor, and a filter whose bounds are all made of fives.
+    /// Six roots, caps, a floor, and filters whose bounds are all made of fives: two that drop, and one that passes.
     const START: &str = "01FF007E\n01ff007e\n01FF007E\n01FF007E\n01FF007E\n01FF007E\n\
         0201FFFFFF\n0202FFFFFF\n0203ffffff\n0204FFFFFF\n0205FFFFFF\n0206FFFFFF\n03000000\n\
-        04030505050505050505050505050505050505050505050505050505\n";
+        04030505050505050505050505050505050505050505050505050505\n\
+        0404050505050505050505050505050505050505050505050505050500\n\
+        0403050505050505050505050505050505050505050505050505050501\n";
+    /// The entries of these filters.
+    const OF_FILTERS: &[u8] = b"001502\n001601\n011600\n";
     /// All ports.
     const ALL: &str = "0000FFFF";
 
@@ -168,13 +171,17 @@ mod tests {
 
     #[test]
     fn wrong_answers_break_it() {
-        let all_alter: [fn(&mut Answers); 13] = [
+        let all_alter: [fn(&mut Answers); 17] = [
             |after| after.list = without(&after.list, b"0214FF\n"),
             |after| after.list.extend(b"0114FF\n"),
             |after| after.list = without(&after.list, b"000802\n"),
             |after| after.list.extend(b"000801\n"),
             |after| after.list.extend(b"0004FF\n"),
             |after| after.list.extend(b"000802\n"),
+            |after| after.list = without(&after.list, b"001502\n"),
+            |after| after.list = without(&after.list, b"011600\n"),
+            |after| after.list.extend(b"021601\n"),
+            |after| after.list.rotate_right(OF_FILTERS.len()),
             |after| after.witnesses[..26].copy_from_slice(b"00000000000000000000000100"),
             |after| after.witnesses.splice(..26, *b"dead").for_each(drop),
             |after| after.witnesses.splice(54..58, [b'0'; 26]).for_each(drop),
@@ -194,6 +201,17 @@ mod tests {
         let place = lines.iter().position(|&other| other == line).unwrap();
         lines.remove(place);
         lines.concat()
+    }
+
+    #[test]
+    fn entries_of_filters_stand_whatever_their_numbers() {
+        let rows = [row("0001", "020202", ALL, "00")];
+        let [before, mut after] = before_and_after(&[], &rows, &[]);
+        assert_eq!(before.list, OF_FILTERS);
+        assert!(after.list.ends_with(OF_FILTERS));
+        assert_eq!(check(0, &[], &before, &after), Ok(()));
+        after.list = without(&after.list, b"001502\n");
+        assert!(check(0, &[], &before, &after).is_err());
     }
 
     #[test]

@@ -59,7 +59,7 @@ impl<'t> Reading<'t> {
         }
     }
 
-    /// The anomalies in ascending order.
+    /// The anomalies: those of rows in ascending order, then those of filters.
     pub fn list(&self) -> Result<Vec<Entry>, Refusal> {
         Ok(kinds::list(self.table()?))
     }

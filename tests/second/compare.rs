@@ -30,7 +30,7 @@ const MOST_SPARE: u64 = 48;
 /// Every so many texts List gets a buffer for any table's list.
 const LARGEST_BUFFER: u64 = 16;
 /// The most bytes that List writes.
-const LIST_BYTES: u64 = 38_400;
+const LIST_BYTES: u64 = 41_376;
 
 /// How many texts there were of each sort, and how many cuts of those that were cut.
 #[derive(Clone, Copy, Default)]

@@ -2,7 +2,7 @@
 
 use crate::frames::{digits, text};
 use crate::random::Random;
-use crate::reader::{MOST_ENTITIES, MOST_FILTERS, MOST_ROWS};
+use crate::reader::{FILTER_BYTES, MOST_ENTITIES, MOST_FILTERS, MOST_ROWS};
 use crate::table::{FIELDS, WIDTHS};
 
 /// The characters before and after 0-9, A-F and a-f.
@@ -24,7 +24,10 @@ pub fn damaged(random: &mut Random, mut lines: Vec<Vec<u8>>) -> Vec<u8> {
         match random.below(13) {
             0..=1 => spoil_digits(random, &mut lines[at]),
             2..=3 => spoil_form(random, &mut lines[at]),
-            4..=5 => at = spoil_sequence(random, &mut lines, at),
+            4..=5 => {
+                at = spoil_sequence(random, &mut lines, at);
+                act_now_and_then(random, &mut lines[at]);
+            }
             _ => spoil_content(random, &mut lines[at]),
         }
     }
@@ -37,7 +40,7 @@ pub fn damaged(random: &mut Random, mut lines: Vec<Vec<u8>>) -> Vec<u8> {
 
 /// The number of a line, rows and filters most often.
 fn any_line(random: &mut Random, lines: &[Vec<u8>]) -> usize {
-    let kind = random.pick(b"123445555");
+    let kind = random.pick(b"1234445555");
     let of_kind: Vec<usize> = (0..lines.len())
         .filter(|&k| lines[k].get(1) == Some(&kind))
         .collect();
@@ -75,18 +78,50 @@ fn no_digit(random: &mut Random) -> u8 {
     random.pick(characters)
 }
 
-/// Makes the line one of refusal 2.
+/// Makes the line one of refusal 2, unless a filter's line gets the action 0 or loses its action.
 fn spoil_form(random: &mut Random, line: &mut Vec<u8>) {
-    let row = line.starts_with(b"05");
-    match random.below(if row { 9 } else { 4 }) {
-        0 => set(line, 0, random.pick(&UNKNOWN_KINDS)),
-        1 => line.truncate(line.len().saturating_sub(2)),
-        2 => line.extend(b"00"),
-        3 => line.truncate(2),
-        4 => set_gateways(line, 9, 9),
-        5 => set_gateways(line, 9, 8),
-        6 => set_gateways(line, random.between(1, 8), 0),
-        7 => set_gateways(line, 255, random.below(9)),
+    let of_its_kind = random.chance(55);
+    match line.get(1) {
+        Some(b'4') if of_its_kind => spoil_filter_form(random, line),
+        Some(b'5') if of_its_kind => spoil_row_form(random, line),
+        _ => match random.below(4) {
+            0 => set(line, 0, random.pick(&UNKNOWN_KINDS)),
+            1 => line.truncate(line.len().saturating_sub(2)),
+            2 => line.extend(b"00"),
+            _ => line.truncate(2),
+        },
+    }
+}
+
+/// Gives a filter's line an action above 1, or a length that is no filter's.
+fn spoil_filter_form(random: &mut Random, line: &mut Vec<u8>) {
+    match random.below(4) {
+        0 => line.resize(2 * (FILTER_BYTES - 1), b'0'),
+        1 => line.resize(2 * (FILTER_BYTES + 2), b'0'),
+        _ => set_action(line, random.pick(&[2, 3, 0x80, 0xFF])),
+    }
+}
+
+/// Now and then gives a filter's line an action; half of these are above 1.
+fn act_now_and_then(random: &mut Random, line: &mut Vec<u8>) {
+    if line.starts_with(b"04") && random.chance(40) {
+        set_action(line, random.pick(&[0, 1, 2, 0xFF]));
+    }
+}
+
+/// Gives a filter's line this action.
+fn set_action(line: &mut Vec<u8>, action: u8) {
+    line.resize(2 * FILTER_BYTES, b'0');
+    line.extend(digits(&[action]));
+}
+
+/// Gives a row's line a number of gateways that is too great or not its own, or none.
+fn spoil_row_form(random: &mut Random, line: &mut Vec<u8>) {
+    match random.below(5) {
+        0 => set_gateways(line, 9, 9),
+        1 => set_gateways(line, 9, 8),
+        2 => set_gateways(line, random.between(1, 8), 0),
+        3 => set_gateways(line, 255, random.below(9)),
         _ => line.truncate(68),
     }
 }
@@ -173,6 +208,7 @@ fn spoil_content(random: &mut Random, line: &mut Vec<u8>) {
             } else {
                 spoil_bounds(random, line, 2);
             }
+            act_now_and_then(random, line);
         }
         Some(b'5') => spoil_row(random, line),
         _ => set(line, 1, random.byte()),
@@ -254,5 +290,58 @@ fn spoil_end(random: &mut Random, text: &mut Vec<u8>) {
         3 => text.push(b'\n'),
         4 => text.clear(),
         _ => *text = b"\n".to_vec(),
+    }
+}
+
+#[cfg(test)]
+mod tests {
+    use super::*;
+    use crate::cases::case;
+    use crate::reader::{decode, read};
+    use std::collections::BTreeMap;
+
+    /// The filter's line by which the text is refused: the number of the refusal, the line's bytes, and the number by which it would be
+    /// refused if its last byte were 1, if any.
+    fn refused_filter(text: &[u8]) -> Option<(usize, Vec<u8>, Option<usize>)> {
+        let refusal = read(text).err()?;
+        let mut lines: Vec<Vec<u8>> = text.split(|&c| c == b'\n').map(<[u8]>::to_vec).collect();
+        let line = lines.get_mut(refusal.line - 1)?;
+        let frame = decode(line).filter(|frame| frame[0] == 4)?;
+        set(line, frame.len() - 1, 1);
+        let other = read(&lines.join(&b'\n')).err();
+        let other = other.filter(|other| other.line == refusal.line);
+        Some((refusal.number, frame, other.map(|other| other.number)))
+    }
+
+    #[test]
+    fn seeded_filters_have_every_fault() {
+        let mut actions: BTreeMap<_, usize> = BTreeMap::new();
+        let mut lengths: BTreeMap<_, usize> = BTreeMap::new();
+        for number in 0..10_000 {
+            if let Some((refusal, frame, other)) = refused_filter(&case(1, number).text) {
+                *lengths.entry((refusal, frame.len())).or_default() += 1;
+                if frame.len() == FILTER_BYTES + 1 {
+                    let action = frame[FILTER_BYTES];
+                    *actions.entry((refusal, action, other)).or_default() += 1;
+                }
+            }
+        }
+        let often = |count: Option<&usize>| count.is_some_and(|&count| count > 3);
+        for refusal in [3, 5, 6] {
+            for action in [0, 1] {
+                assert!(often(actions.get(&(refusal, action, Some(refusal)))));
+            }
+            for action in [2, 0xFF] {
+                assert!(often(actions.get(&(2, action, Some(refusal)))));
+            }
+            assert!(often(lengths.get(&(refusal, 28))) && often(lengths.get(&(refusal, 29))));
+        }
+        for action in [2, 3, 0x80, 0xFF] {
+            assert!(often(actions.get(&(2, action, None))));
+        }
+        for length in [1, 27, 29, 30] {
+            assert!(often(lengths.get(&(2, length))));
+        }
+        assert_eq!(lengths.get(&(2, 28)), None);
     }
 }

@@ -48,6 +48,7 @@ pub fn digits(bytes: &[u8]) -> Vec<u8> {
 fn filter_frame(filter: &Filter) -> Vec<u8> {
     let mut frame = vec![4, filter.root];
     push_selector(&mut frame, &filter.selector);
+    frame.extend(filter.written.map(|action| action as u8));
     frame
 }
 

@@ -2,15 +2,23 @@
 
 use crate::chains::alternative_path;
 use crate::dead::dead;
+use crate::filters::{self, filtered};
 use crate::pairs;
 use crate::relations::{at_least, contains, layer, root};
 use crate::table::{Row, Selector, Table, NONE};
 
-/// First row, kind, second row or FF.
+/// First number, kind, second number or FF; the numbers are those of rows or of filters, as the kind is.
 pub type Entry = [u8; 3];
 
-/// The table's anomalies in ascending order.
+/// The table's anomalies: those of rows in ascending order, then those of filters, ascending too.
 pub fn list(table: &Table) -> Vec<Entry> {
+    let mut entries = of_rows(table);
+    entries.extend(filters::entries(table));
+    entries
+}
+
+/// The anomalies of rows in ascending order.
+fn of_rows(table: &Table) -> Vec<Entry> {
     let mut entries = Vec::new();
     for i in 0..table.rows.len() {
         for kind in 1..=20 {
@@ -85,13 +93,6 @@ pub fn rides(table: &Table, rider: &Row, carrier: &Row) -> bool {
         None => false,
     };
     passes && contains(&carrier.selector, &rider.selector)
-}
-
-/// Kind 14: one filter of a gateway contains the row's selector.
-fn filtered(table: &Table, row: &Row) -> bool {
-    table.filters.iter().any(|filter| {
-        row.gateways.contains(&filter.root) && contains(&filter.selector, &row.selector)
-    })
 }
 
 /// Kind 16: no row answers this one.

@@ -17,6 +17,8 @@ mod dead;
 mod differences;
 mod draft;
 mod families;
+mod filters;
+mod firewalls;
 mod frames;
 mod grid;
 mod join;

@@ -10,6 +10,8 @@ use crate::table::{Coefficients, Packet, FIELDS, WIDTHS};
 const MOST_PACKETS: u64 = 1024;
 /// The kind of a dead row's entry.
 const DEAD: u8 = 20;
+/// The kinds of entries of filters.
+const OF_FILTERS: [u8; 2] = [21, 22];
 
 /// A row's group (holder, technology and gateways), ends, coefficients and box.
 pub struct Row {
@@ -109,7 +111,8 @@ fn check_witness(
     })
 }
 
-/// Checks that the struck text is accepted with the kept rows, and that the answers to it name none dead.
+/// Checks that the struck text is accepted with the kept rows, that the answers to it name none dead, and that the entries of filters
+/// stand.
 fn check_struck(kept: &[usize], before: &Answers, after: &Answers) -> Result<(), String> {
     let [mut expected, counts] = [before, after].map(|answers| counts(&answers.check));
     if let Some(rows) = expected.get_mut(2) {
@@ -122,7 +125,11 @@ fn check_struck(kept: &[usize], before: &Answers, after: &Answers) -> Result<(),
     ensure(
         dead_rows(&after.list).is_empty() && !witnesses.into_iter().any(|line| line == b"dead"),
         || "a row of the struck text is called dead".into(),
-    )
+    )?;
+    let [old, new] = [before, after].map(|answers| filter_entries(&answers.list));
+    ensure(old == new, || {
+        "the struck text has other entries of filters".into()
+    })
 }
 
 /// Checks Winner's answers to the probes that name a row and two entities.
@@ -271,13 +278,28 @@ pub fn bytes(digits: &[u8]) -> Vec<u8> {
         .collect()
 }
 
+/// The listed entries, in their order.
+pub fn entries(list: &[u8]) -> impl Iterator<Item = Vec<u8>> + '_ {
+    let lines = list.split(|&c| c == b'\n').map(bytes);
+    lines.filter(|entry| entry.len() == 3)
+}
+
 /// The rows listed as dead.
 pub fn dead_rows(list: &[u8]) -> Vec<usize> {
-    list.split(|&c| c == b'\n')
-        .map(bytes)
-        .filter(|entry| entry.get(1) == Some(&DEAD))
+    entries(list)
+        .filter(|entry| entry[1] == DEAD)
         .map(|entry| usize::from(entry[0]))
         .collect()
+}
+
+/// Whether the entry is one of filters.
+pub fn of_filters(entry: &[u8]) -> bool {
+    OF_FILTERS.contains(&entry[1])
+}
+
+/// The listed entries of filters.
+fn filter_entries(list: &[u8]) -> Vec<Vec<u8>> {
+    entries(list).filter(|entry| of_filters(entry)).collect()
 }
 
 /// The counts that Check's line gives behind the text's name.
@@ -325,9 +347,12 @@ mod tests {
     use crate::printed::answers;
     use crate::questions::Questions;
 
-    /// Three rows of one group over destination ports 0 to 3, the third hidden by the other two together.
+    /// Filters of two roots that drop the same packets, and three rows of one group over destination ports 0 to 3, the third hidden by
+    /// the other two together.
     const TEXT: &str = "01FF007E\n01000300\n01FF007E\n\
         0201FFFFFF\n0202FFFFFF\n0203FFFFFF\n0204FFFFFF\n0205FFFFFF\n0206FFFFFF\n03000000\n\
+        04000000000000000000000000000000000000000000000000000000\n\
+        0402000000000000000000000000000000000000000000000000000000\n\
         0500000203030303000000000000000000000000000000000000000000000001000000\n\
         0500010203030303000000000000000000000000000000000000000000020003000000\n\
         0500010203030303000000000000000000000000000000000000000000010003000000\n";
@@ -357,7 +382,7 @@ mod tests {
 
     #[test]
     fn wrong_answers_break_them() {
-        let all_alter: [fn(&mut Answers, &mut Answers); 10] = [
+        let all_alter: [fn(&mut Answers, &mut Answers); 13] = [
             |before, _| before.list.clear(),
             |before, _| before.list.extend(b"0114FF\n"),
             |before, _| before.witnesses[..26].copy_from_slice(b"00000000000000000000000100"),
@@ -368,6 +393,9 @@ mod tests {
             |before, _| before.struck.truncate(before.struck.len() - 71),
             |before, _| before.winners = b"00\n".to_vec(),
             |_, after| after.check = b"text !0101\n".to_vec(),
+            |_, after| after.list.clear(),
+            |_, after| after.list.extend(b"001501\n"),
+            |_, after| after.list.truncate(after.list.len() - 7),
         ];
         for (place, alter) in all_alter.into_iter().enumerate() {
             assert!(!holds(alter), "alteration {place}");

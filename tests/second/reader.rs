@@ -1,6 +1,6 @@
 //! Reading a text to a table or to the refusal of its first faulty line.
 
-use crate::table::{Coefficients, Entity, Filter, Range, Refusal, Row, Selector, Table};
+use crate::table::{Action, Coefficients, Entity, Filter, Range, Refusal, Row, Selector, Table};
 use crate::table::{FIELDS, NONE, WIDTHS};
 use std::ops::Range as Place;
 
@@ -9,6 +9,8 @@ pub const MOST_FILTERS: usize = 32;
 pub const MOST_ROWS: usize = 64;
 pub const MOST_GATEWAYS: usize = 8;
 pub const TECHNOLOGIES: usize = 6;
+/// How many bytes a filter frame has without its action.
+pub const FILTER_BYTES: usize = 28;
 /// Where a row frame holds its number of gateways.
 const GATEWAY_COUNT_AT: usize = 34;
 const ENTITY_LAYERS: [u8; 4] = [2, 3, 5, 7];
@@ -77,13 +79,13 @@ fn digit(character: u8) -> Option<u8> {
     char::from(character).to_digit(16).map(|value| value as u8)
 }
 
-/// Whether the kind is known, the length is the kind's, and a row has at most eight gateways.
+/// Whether the kind is known, the length is the kind's, a filter's action is at most 1, and a row has at most eight gateways.
 fn well_formed(frame: &[u8]) -> bool {
     match frame[0] {
         1 => frame.len() == 4,
         2 => frame.len() == 5,
         3 => frame.len() == 4,
-        4 => frame.len() == 28,
+        4 => matches!(frame.get(FILTER_BYTES..), Some([] | [0 | 1])),
         5 => match frame.get(GATEWAY_COUNT_AT) {
             Some(&count) => {
                 usize::from(count) <= MOST_GATEWAYS
@@ -136,6 +138,10 @@ fn take_filter(table: &mut Table, frame: &[u8]) -> Option<usize> {
     let filter = Filter {
         root: frame[1],
         selector: selector(&frame[2..]),
+        written: frame.get(FILTER_BYTES).map(|&action| match action {
+            0 => Action::Drop,
+            _ => Action::Pass,
+        }),
     };
     if !is_root(table, filter.root) {
         return Some(5);

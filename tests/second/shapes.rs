@@ -3,9 +3,9 @@
 use crate::draft::{draft, few, Draft, Scale, BUSY_ROOTS};
 use crate::kinds::exchanged;
 use crate::random::Random;
-use crate::reader::{MOST_FILTERS, MOST_ROWS};
+use crate::reader::MOST_ROWS;
 use crate::relations::root;
-use crate::table::{Filter, Row, Table, FIELDS};
+use crate::table::{Row, Table, FIELDS};
 
 /// A lawful table.
 pub fn table(random: &mut Random, scale: Scale) -> Table {
@@ -286,36 +286,5 @@ impl Draft<'_> {
         }
         self.push(first);
         self.push(second);
-    }
-
-    /// Adds filters, most of them of some row's gateway and near its selector.
-    fn add_filters(&mut self) {
-        let count = match self.random.below(10) {
-            _ if self.scale == Scale::Full => MOST_FILTERS,
-            0..=3 => 0,
-            4..=8 => self.random.between(1, 6),
-            _ => self.random.between(7, MOST_FILTERS),
-        };
-        for _ in 0..count {
-            let mut filter = Filter {
-                root: self.root(),
-                selector: self.selector(),
-            };
-            if let Some(row) = self.earlier() {
-                if !row.gateways.is_empty() && self.random.chance(70) {
-                    filter.root = self.random.pick(&row.gateways);
-                    filter.selector = row.selector;
-                }
-            }
-            let field = self.random.below(FIELDS);
-            match self.random.below(3) {
-                0 => filter.selector[field] = self.whole[field],
-                1 if filter.selector[field].low < filter.selector[field].high => {
-                    filter.selector[field].low += 1;
-                }
-                _ => {}
-            }
-            self.table.filters.push(filter);
-        }
     }
 }

@@ -32,11 +32,27 @@ pub struct Entity {
     pub mask: u8,
 }
 
-/// A filter frame: the root drops the packets of the selector.
+/// What a root does with the packets of a filter, numbered as in the frame.
+#[derive(Clone, Copy, Debug, PartialEq, Eq)]
+pub enum Action {
+    Drop = 0,
+    Pass = 1,
+}
+
+/// A filter frame: the root drops the packets of the selector, or passes them.
 #[derive(Clone, Debug, PartialEq, Eq)]
 pub struct Filter {
     pub root: u8,
     pub selector: Selector,
+    /// The action, where the frame has its byte.
+    pub written: Option<Action>,
+}
+
+impl Filter {
+    /// What the root does with the packets: it drops them where the frame has no action.
+    pub fn action(&self) -> Action {
+        self.written.unwrap_or(Action::Drop)
+    }
 }
 
 /// A row frame.

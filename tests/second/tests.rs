@@ -1,5 +1,5 @@
-//! Document 01's table T and its edges, the examples of the kinds, the edges of Join and Prefixes, and demand 3 on seeded tables;
-//! and all 256 bytes as digits, read by the static library.
+//! Document 01's table T and its edges, the stored examples and vectors, the edges of Join and Prefixes, and demand 3 on seeded
+//! tables; and all 256 bytes as digits, read by the static library.
 
 use crate::added;
 use crate::calls::{self, Reading};
@@ -8,7 +8,7 @@ use crate::compare;
 use crate::couples::Couple;
 use crate::draft::Scale;
 use crate::frames::{lines, text};
-use crate::kinds::{list, riders, rides};
+use crate::kinds::{list, riders, rides, Entry};
 use crate::library;
 use crate::prefixes::PREFIX_BYTES;
 use crate::printed;
@@ -24,6 +24,9 @@ use crate::table::{Coefficients, Packet, Refusal, Row, Table, FIELDS};
 use std::cmp::Ordering::{self, Equal, Greater, Less};
 use std::collections::BTreeSet;
 use std::path::Path;
+
+/// The box of all packets.
+const ALL_PACKETS: &str = "00000000FFFFFFFF00000000FFFFFFFF0000FFFF0000FFFF00FF";
 
 const ROW_START: &str = "050001030303030300000000FFFFFFFF00000000FFFFFFFF0000FFFF";
 
@@ -169,9 +172,9 @@ fn small_letters_are_read_as_capitals() {
 
 #[test]
 fn the_library_reads_every_byte_alike_at_every_place() {
-    let drop_all = b"040000000000FFFFFFFF00000000FFFFFFFF0000FFFF0000FFFF00FF";
+    let filters = [format!("0400{ALL_PACKETS}"), format!("0402{ALL_PACKETS}01")];
     let mut lines = table_t();
-    lines.insert(11, drop_all.to_vec());
+    lines.splice(11..11, filters.map(String::into_bytes));
     let whole = text(&lines);
     for place in 0..whole.len() {
         for byte in 0..=255 {
@@ -181,6 +184,37 @@ fn the_library_reads_every_byte_alike_at_every_place() {
             assert_eq!(difference, None, "place {place}, byte {byte}");
         }
     }
+}
+
+#[test]
+fn refusals_of_filters() {
+    let with_filter = |line: usize, root: &str, selector: &str, action: &str| {
+        refusal(&with_line(line, &format!("04{root}{selector}{action}")))
+    };
+    let turned = format!("{}0100", &ALL_PACKETS[..48]);
+    for action in ["", "00", "01"] {
+        assert_eq!(with_filter(12, "02", ALL_PACKETS, action), None);
+        assert_eq!(with_filter(14, "02", ALL_PACKETS, action), Some((3, 14)));
+        assert_eq!(with_filter(14, "01", &turned, action), Some((3, 14)));
+        for root in ["01", "03", "04", "FF"] {
+            assert_eq!(with_filter(12, root, ALL_PACKETS, action), Some((5, 12)));
+            assert_eq!(with_filter(12, root, &turned, action), Some((5, 12)));
+        }
+        assert_eq!(with_filter(12, "00", &turned, action), Some((6, 12)));
+    }
+    for action in ["02", "03", "10", "80", "81", "FF", "0000", "0001", "0100"] {
+        for line in [1, 12, 14] {
+            for root in ["00", "01", "FF"] {
+                for selector in [ALL_PACKETS, &turned] {
+                    let refused = with_filter(line, root, selector, action);
+                    assert_eq!(refused, Some((2, line)), "{root}{selector}{action}");
+                }
+            }
+        }
+    }
+    let one_short = &ALL_PACKETS[2..];
+    assert_eq!(with_filter(12, "00", one_short, ""), Some((2, 12)));
+    assert_eq!(with_filter(12, "00", &one_short[2..], "01"), Some((2, 12)));
 }
 
 #[test]
@@ -479,6 +513,64 @@ fn executed_examples() {
 }
 
 #[test]
+fn stored_vectors_of_the_programs() {
+    let directory = Path::new("tests/programs");
+    let mut texts = 0;
+    for file in std::fs::read_dir(directory).unwrap() {
+        let path = file.unwrap().path();
+        if path
+            .extension()
+            .is_some_and(|extension| extension == "text")
+        {
+            let stored = |extension: &str| std::fs::read(path.with_extension(extension)).unwrap();
+            let text = stored("text");
+            let answers = printed::answers("text", &text, &Questions::default());
+            let [list, struck] = [answers.list, answers.struck]
+                .map(|answer| printed::of_input(&text, &answer).to_vec());
+            assert_eq!(list, stored("rowlist"), "{path:?}");
+            assert_eq!(struck, stored("strike"), "{path:?}");
+            texts += 1;
+        }
+    }
+    assert!(texts > 0);
+}
+
+/// No table has more entries. A row has at most ten alone, since no internal loop has an alternative path, and row 0 is never dead. Two
+/// rows have at most three: one of kinds 5 to 11 and 18, and 13 in either order. Two filters have at most two.
+#[test]
+fn the_stored_largest_list() {
+    let text = std::fs::read("crates/answers/data/largest_list").unwrap();
+    let table = read(&text).unwrap();
+    assert_eq!((table.filters.len(), table.rows.len()), (32, 64));
+    let entries = list(&table);
+    let of_rows = 10 * 64 - 1 + 3 * (64 * 63 / 2);
+    assert_eq!(entries.len(), of_rows + 32 * 31);
+    assert_eq!(entries.len(), 7679);
+    assert!(in_two_blocks(&entries));
+    assert!(entries[..of_rows].iter().all(|entry| entry[1] <= 20));
+}
+
+/// Whether the entries of rows come first and then those of filters, both in ascending order.
+fn in_two_blocks(entries: &[Entry]) -> bool {
+    let place = |entry: &Entry| (entry[1] > 20, *entry);
+    entries
+        .windows(2)
+        .all(|pair| place(&pair[0]) < place(&pair[1]))
+}
+
+#[test]
+fn seeded_lists_are_in_two_blocks() {
+    let mut not_ascending = 0;
+    for number in 0..1000 {
+        let table = read(&case(1, number).text).unwrap_or_default();
+        let entries = list(&table);
+        assert!(in_two_blocks(&entries));
+        not_ascending += usize::from(!entries.is_sorted());
+    }
+    assert!(not_ascending > 100, "{not_ascending}");
+}
+
+#[test]
 fn stored_seasons_grow_at_the_end() {
     let stored = |name: &str| std::fs::read(format!("crates/answers/data/{name}")).unwrap();
     let questions = Questions::read(&stored("season_probes")).unwrap();
@@ -513,7 +605,7 @@ fn seeded_texts_have_every_kind_and_refusal() {
             }
         }
     }
-    assert_eq!(kinds, (1..=20).collect());
+    assert_eq!(kinds, (1..=22).collect());
     assert_eq!(refusals, (1..=7).collect());
     assert!([16_383, 16_384, 16_385]
         .iter()

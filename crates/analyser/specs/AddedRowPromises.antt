@@ -13,7 +13,7 @@ use Rattle.base.specs.Answers.{returned}
 use Rattle.relations.specs.Groups.{SameGroup}
 use Rattle.reader.specs.States.{parse}
 use Rattle.reader.specs.Rules.{RowRun}
-use Rattle.kinds.specs.Extended.{MayChange, OfOldRows}
+use Rattle.kinds.specs.Extended.{MayChange, OfOldThings}
 use Rattle.analyser.specs.Calls.{witnessOf, winningRow, winnerOf, listOf, listWritten}
 
 -- List, given this output, writes the entry: among those that it counts, one has these three bytes.
@@ -42,8 +42,8 @@ pub record AnswersStand (text more : List ℕ) (added : List Row) (t u : Table) 
   -- and if a new row of the group names it.
   pub named : (g h a b : ℕ) (p : Packet) (i : ℕ) → h < length (u .rows) → SameGroup (rowAt u h) (rowAt t g)
       → winnerOf text g a b p ≡ returned (winningRow i) → winnerOf (text ++ more) h a b p ≡ returned (winningRow i)
-  -- "Kinds 12, 16 and 19 may change for old rows, and new pairs may appear": every other entry of old rows stands.
-  pub others : (i kind j : ℕ) → OfOldRows t i j → (MayChange kind → ⊥) → BothList text (text ++ more) i kind j
+  -- "Kinds 12, 16 and 19 may change for old rows, and new pairs may appear": every other entry of old rows stands, and every entry of filters.
+  pub others : (i kind j : ℕ) → OfOldThings t i kind j → (MayChange kind → ⊥) → BothList text (text ++ more) i kind j
 
 -- "for every accepted text and every run of row lines that may follow it in an accepted text"
 abbrev pub AddedRows : Type 0

@@ -1,5 +1,5 @@
--- Demands 1 to 3, and document 02's request [1], on the calls, for every text. Numbers of document 01 stand here as it prints them. (Demand 2 on
--- relations is in RelationPromises, the other requests in JoinPromises, PrefixPromises and AddedRowPromises.)
+-- Demands 1 to 3, and document 02's requests [1] and [7], on the calls, for every text. Numbers of the documents stand here as they print them. (Demand 2
+-- on relations is in RelationPromises, the other requests in JoinPromises, PrefixPromises and AddedRowPromises.)
 -- Assumes nothing.
 use Prim.Native.Nat.{ℕ, _+_, _-_, _*_, _≤_, _<_}
 use mathlib.Core.Path.{_≡_}
@@ -10,7 +10,7 @@ use lib.ListN.{length, take, drop, getD}
 use Rattle.hex.specs.Digits.{digitValue, Decimal, Capital, Digit, digitsOf}
 use Rattle.hex.specs.Lines.{NoLine, isLine, bytesOf}
 use Rattle.hex.specs.Letters.{SameButCase}
-use Rattle.policy.specs.Model.{Packet, Row, Table, rowAt, parentOf}
+use Rattle.policy.specs.Model.{Packet, Row, Table, dropping, passing, rowAt, parentOf}
 use Rattle.policy.specs.Wellformed.{IsEntity, widths}
 use Rattle.base.specs.Truths.{Decides}
 use Rattle.relations.specs.Entities.{Tree}
@@ -25,7 +25,7 @@ use Rattle.reader.specs.States.{parse}
 use Rattle.reader.specs.Rules.{KeepsRules}
 use Rattle.reader.specs.Faults.{FaultAt, FirstFault}
 use Rattle.search.specs.Least.{_≤ₚ_}
-use Rattle.kinds.specs.Meanings.{InternalLoop, OutOfPlace, NonEnforceable, Inadequate, Shadowing, Redundancy, Exception, Correlation, Inclusion, Affinity, Contradiction, Superfluous, Skewed, Filtered, LayerTwo, Asymmetric, Cyclic, Monitorable, AlternativePath}
+use Rattle.kinds.specs.Meanings.{InternalLoop, OutOfPlace, NonEnforceable, Inadequate, Shadowing, Redundancy, Exception, Correlation, Inclusion, Affinity, Contradiction, Superfluous, Skewed, Filtered, LayerTwo, Asymmetric, Cyclic, Monitorable, AlternativePath, FilterShadowing, FilterRedundancy}
 use Rattle.kinds.specs.Kinds.{Anomaly}
 use Rattle.kinds.specs.Entries.{Entry, entry, entries, Ascending}
 use Rattle.listing.specs.Bytes.{bytes}
@@ -68,6 +68,8 @@ pub record Reading : Type 0 where
   pub kind-bytes : map (λ k. describe k .byte) (ofEntity ∷ ofCap ∷ ofFloor ∷ ofFilter ∷ ofRow ∷ []) ≡ 1 ∷ 2 ∷ 3 ∷ 4 ∷ 5 ∷ []
   -- "source address (4 bytes each), destination address (4), source port (2), destination port (2), protocol (1)"
   pub box : widths ≡ 4 ∷ 4 ∷ 2 ∷ 2 ∷ 1 ∷ []
+  -- request [7]: "0 to drop and 1 to pass"
+  pub actions : (dropping ≡ 0) × (passing ≡ 1)
   -- "The first faulty line counts (lines from 1), there the least number", each number as the table of returns says it
   pub first-fault : (text : List ℕ) (number line : ℕ) → (parse text ≡ refusedBy number line) ↔ FirstFault text number line
   -- a text that keeps the rules has no fault, at whatever line
@@ -109,7 +111,11 @@ OfOne t kind P = (i j : ℕ) → Anomaly t i kind j ↔ ((i < length (t .rows)) 
 abbrev pub OfTwo : Table → ℕ → (ℕ → ℕ → Type 0) → Type 0
 OfTwo t kind P = (i j : ℕ) → Anomaly t i kind j ↔ ((i < length (t .rows)) × (j < length (t .rows)) × P i j)
 
--- "An anomaly is one of these kinds holding of row i, or of rows i and j", by the kinds' numbers.
+-- Request [7]: those of two filters. "Their entries hold filter numbers from 0".
+abbrev pub OfTwoFilters : Table → ℕ → (ℕ → ℕ → Type 0) → Type 0
+OfTwoFilters t kind P = (k m : ℕ) → Anomaly t k kind m ↔ ((k < length (t .filters)) × (m < length (t .filters)) × P k m)
+
+-- "An anomaly is one of these kinds holding of row i, or of rows i and j", or of filters, by the kinds' numbers.
 pub record KindNumbers (t : Table) : Type 0 where
   pub internal-loop : OfOne t 1 (InternalLoop t)
   pub out-of-place : OfOne t 2 (OutOfPlace t)
@@ -131,22 +137,26 @@ pub record KindNumbers (t : Table) : Type 0 where
   pub monitorable : OfTwo t 18 (Monitorable t)
   pub alternative-path : OfOne t 19 (AlternativePath t)
   pub dead : OfOne t 20 (Dead t)
+  pub filter-shadowing : OfTwoFilters t 21 (FilterShadowing t)
+  pub filter-redundancy : OfTwoFilters t 22 (FilterRedundancy t)
   -- there is no other kind
-  pub no-other : (i kind j : ℕ) → Anomaly t i kind j → (1 ≤ kind) × (kind ≤ 20)
+  pub no-other : (i kind j : ℕ) → Anomaly t i kind j → (1 ≤ kind) × (kind ≤ 22)
 
--- "The list is the one that the twenty kinds .. define: no entry more, none less."
+-- "The list is the one that the twenty kinds .. define: no entry more, none less." By request [7] this means twenty-two kinds, "as altered here and in this
+-- order: nobody can name one that it lacks, and it has no entry more".
 pub record ListPromise (text : List ℕ) (t : Table) : Type 0 where
   -- given space, List writes the entries and returns their count
   pub written : (out : List ℕ) → 3 * length (entries t) ≤ length out
       → (listOf text out ≡ returned (length (entries t))) × (listWritten text out ≡ bytes (entries t) ++ drop (3 * length (entries t)) out)
-  -- "three bytes an entry (first row, kind, second number)"
+  -- "three bytes an entry (first row, kind, second number)", with filter numbers in those of filters
   pub three : (bytes [] ≡ []) × ((i kind j : ℕ) (l : List Entry) → bytes (entry i kind j ∷ l) ≡ i ∷ kind ∷ j ∷ bytes l)
-  -- "List's entries are exactly the table's anomalies of the twenty kinds, each once, in document 01's order."
+  -- "List's entries are exactly the table's anomalies of the twenty kinds, each once, in document 01's order", those of filters "after all row entries,
+  -- ascending"
   pub exact : (i kind j : ℕ) → List·Memᴰ (entry i kind j) (entries t) ↔ Anomaly t i kind j
   pub kinds : KindNumbers t
   pub ascending : Ascending (entries t)
-  -- "At most 12,800 entries"
-  pub few : length (entries t) ≤ 12800
+  -- "The list has at most 13,792 entries"
+  pub few : length (entries t) ≤ 13792
 
 -- ---- demand 3
 

@@ -1,14 +1,14 @@
--- Document 01, "The table text": filters. `parents` are those of the entities read so far, by number.
+-- Document 01, "The table text", and document 02, [7]: filters. `parents` are those of the entities read so far, by number.
 -- Assumes nothing.
-use Prim.Native.Nat.{ℕ, _+_}
+use Prim.Native.Nat.{ℕ, _+_, _≤_}
 use mathlib.Core.Path.{_≡_}
-use mathlib.Core.Bool.{Bool, _&&_}
-use mathlib.Core.List.{List, [], _∷_}
-use lib.Dec.{eqb, ltb}
+use mathlib.Core.Bool.{Bool, _&&_, _||_}
+use mathlib.Core.List.{List, [], _∷_, _++_}
+use lib.Dec.{eqb, leb, ltb}
 use lib.ListN.{length, getD}
 use Rattle.base.specs.Checks.{Check, or-else}
 use Rattle.policy.specs.Limits.{mostFilters}
-use Rattle.policy.specs.Model.{Filter, parentsOf}
+use Rattle.policy.specs.Model.{Filter, dropping, passing, parentsOf}
 use Rattle.policy.specs.Views.{withFilter}
 use Rattle.policy.specs.Wellformed.{widths}
 use Rattle.relations.specs.Selectors.{inhabited}
@@ -17,12 +17,30 @@ use Rattle.frames.specs.Progress.{FrameKind}
 use Rattle.frames.specs.Parts.{selectorFrom, SaysBox, boxBytes}
 use Rattle.frames.specs.Numbers.{isRoot}
 
--- "04 filter, 28 bytes: kind, root, box."
+-- "04 filter, 28 bytes: kind, root, box." "A filter frame may have a 29th byte, 0 to drop and 1 to pass; a frame of 28 bytes drops."
+-- The place of that byte.
+abbrev pub actionPlace : ℕ
+actionPlace = 1 + boxBytes widths
+
 abbrev pub filterLength : List ℕ → Bool
-filterLength bs = eqb (length bs) (1 + boxBytes widths)
+filterLength bs = (eqb (length bs) actionPlace || eqb (length bs) (actionPlace + 1)) && leb (getD bs actionPlace 0) passing
 
 abbrev pub filterFrom : List ℕ → Filter
-filterFrom bs = record { root = getD bs 0 0; selector = selectorFrom 1 widths bs }
+filterFrom bs = record { root = getD bs 0 0; selector = selectorFrom 1 widths bs; action = getD bs actionPlace 0 }
+
+-- What stands after the box says the action: nothing, or one byte.
+abbrev pub SaysAction : List ℕ → ℕ → Type 0
+SaysAction [] action = action ≡ dropping
+SaysAction (b ∷ []) action = (b ≡ action) × (action ≤ passing)
+SaysAction (b ∷ c ∷ bs) action = ⊥
+
+-- The bytes say the filter.
+pub record SaysFilter (bs : List ℕ) (f : Filter) : Type 0 where
+  pub box : List ℕ
+  pub selector : SaysBox widths box (f .selector)
+  pub last : List ℕ
+  pub action : SaysAction last (f .action)
+  pub bytes : bs ≡ f .root ∷ (box ++ last)
 
 -- "0 to 32 filters", after the floor and before the rows.
 abbrev pub filterPlace : (floored rows filters : ℕ) → Bool
@@ -39,7 +57,7 @@ filterKind =
       byte = 4;
       long = filterLength;
       value = filterFrom;
-      says = λ bs f. (box : List ℕ) × SaysBox widths box (f .selector) × (bs ≡ f .root ∷ box);
+      says = SaysFilter;
       placed = λ p f. filterPlace (p .floored) (length (p .table .rows)) (length (p .table .filters));
       content = λ t f. filterContent (parentsOf t) f;
       judged = λ f. record {

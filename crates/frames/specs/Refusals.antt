@@ -6,7 +6,7 @@ use Prim.Native.Nat.{ℕ}
 abbrev pub noLine : ℕ
 noLine = 1
 
--- "unknown kind, length not the kind's, n above 8"
+-- "unknown kind, length not the kind's, n above 8"; document 02, [7]: "an action above 1"
 abbrev pub wrongForm : ℕ
 wrongForm = 2
 

@@ -3,11 +3,13 @@ pub mod Lists
 pub mod Placed
 pub mod Roots
 pub mod Pairs
+pub mod Filters
 pub mod Rows
 pub mod Paths
 pub mod Chains
 pub mod Anomalies
 pub mod Examples
+pub mod Blocks
 pub mod Entries
 pub mod Ascending
 pub mod Sums

@@ -1,21 +1,22 @@
--- Document 01: the entries of a table's anomalies, "first row, kind, second number", "in ascending order, compared in this sequence".
+-- Document 01: the entries of a table's anomalies, "first row, kind, second number", "in ascending order, compared in this sequence"; and document 02,
+-- [7]: those of filters "hold filter numbers from 0 and come after all row entries, ascending".
 -- Assumes nothing.
-use Prim.Native.Nat.{ℕ, zero, suc, _+_, _<_}
+use Prim.Native.Nat.{ℕ, zero, suc, _+_, _≤_, _<_}
 use mathlib.Core.Path.{_≡_}
-use mathlib.Core.List.{List, [], _∷_, _++_}
+use mathlib.Core.List.{List, [], _∷_, _++_, List·Memᴰ}
 use lib.ListN.{length}
 use Rattle.base.specs.Truths.{pick}
 use Rattle.base.specs.Lists.{Ascends}
 use Rattle.policy.specs.Model.{Table}
-use Rattle.kinds.specs.Kinds.{noSecond, kindCount, anomaly}
+use Rattle.kinds.specs.Kinds.{noSecond, rowKindCount, filterKindCount, anomaly}
 
 pub record Entry : Type 0 where
-  pub row : ℕ
+  pub first : ℕ
   pub kind : ℕ
   pub second : ℕ
 
 abbrev pub entry : ℕ → ℕ → ℕ → Entry
-entry i kind j = record { row = i; kind = kind; second = j }
+entry i kind j = record { first = i; kind = kind; second = j }
 
 -- The lists of n numbers from k on, one after another.
 unfoldable pub gather : ℕ → ℕ → (ℕ → List Entry) → List Entry
@@ -31,27 +32,49 @@ sum (suc n) k f = f k + sum n (suc k) f
 abbrev pub listed : Table → ℕ → ℕ → ℕ → List Entry
 listed t i kind j = pick (anomaly t i kind j) (entry i kind j ∷ []) []
 
--- Of row i and a kind, for each second number: the rows, and FF.
-abbrev pub ofKind : Table → ℕ → ℕ → List Entry
-ofKind t i kind = gather (length (t .rows)) 0 (λ j. listed t i kind j) ++ listed t i kind noSecond
+-- A block of entries is of so many things, rows or filters, and of so many kinds from one on.
+pub record Block : Type 0 where
+  pub things : ℕ
+  pub kind : ℕ
+  pub kinds : ℕ
 
--- Of row i, for each kind.
-abbrev pub ofRow : Table → ℕ → List Entry
-ofRow t i = gather kindCount 1 (ofKind t i)
+abbrev pub rowBlock : Table → Block
+rowBlock t = record { things = length (t .rows); kind = 1; kinds = rowKindCount }
+
+abbrev pub filterBlock : Table → Block
+filterBlock t = record { things = length (t .filters); kind = suc rowKindCount; kinds = filterKindCount }
+
+-- Of thing i and a kind, for each second number: those of so many things, and FF.
+abbrev pub ofKind : Table → ℕ → ℕ → ℕ → List Entry
+ofKind t things i kind = gather things 0 (λ j. listed t i kind j) ++ listed t i kind noSecond
+
+-- Of thing i, for each kind of the block.
+abbrev pub ofThing : Table → Block → ℕ → List Entry
+ofThing t b i = gather (b .kinds) (b .kind) (ofKind t (b .things) i)
+
+abbrev pub ofBlock : Table → Block → List Entry
+ofBlock t b = gather (b .things) 0 (ofThing t b)
 
 unfoldable pub entries : Table → List Entry
-entries t = gather (length (t .rows)) 0 (ofRow t)
+entries t = ofBlock t (rowBlock t) ++ ofBlock t (filterBlock t)
 
--- "At most 12,800 entries"
+-- "The list has at most 13,792 entries": 12,800 of rows, and 992 of filters.
 abbrev pub mostEntries : ℕ
-mostEntries = 12800
+mostEntries = 13792
 
--- "compared in this sequence": row, kind, second number.
+-- "compared in this sequence": first number, kind, second number.
 pub data Before : Entry → Entry → Type 0 where
-  by-row : {e f : Entry} → e .row < f .row → Before e f
-  by-kind : {e f : Entry} → e .row ≡ f .row → e .kind < f .kind → Before e f
-  by-second : {e f : Entry} → e .row ≡ f .row → e .kind ≡ f .kind → e .second < f .second → Before e f
+  by-first : {e f : Entry} → e .first < f .first → Before e f
+  by-kind : {e f : Entry} → e .first ≡ f .first → e .kind < f .kind → Before e f
+  by-second : {e f : Entry} → e .first ≡ f .first → e .kind ≡ f .kind → e .second < f .second → Before e f
 
--- Each entry is before all that follow it; so each is there once.
-abbrev pub Ascending : List Entry → Type 0
-Ascending l = Ascends Before l
+-- Two blocks: kinds 1 to 20, and "after all row entries" kinds 21 and 22, of filters. In each an entry is before all that follow it; so each is there
+-- once.
+pub record Ascending (l : List Entry) : Type 0 where
+  pub rows : List Entry
+  pub filters : List Entry
+  pub blocks : l ≡ rows ++ filters
+  pub rows-first : (e : Entry) → List·Memᴰ e rows → e .kind ≤ 20
+  pub filters-last : (e : Entry) → List·Memᴰ e filters → 20 < e .kind
+  pub rows-ascend : Ascends Before rows
+  pub filters-ascend : Ascends Before filters

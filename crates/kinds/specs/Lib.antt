@@ -1,4 +1,4 @@
--- The twenty kinds of anomalies: what each says, its test, the list of them, and the list of a table's entries.
+-- The twenty-two kinds of anomalies: what each says, its test, the list of them, and the list of a table's entries.
 pub mod Meanings
 pub mod Views
 pub mod Tests

@@ -1,11 +1,12 @@
--- Document 01, "The twenty kinds", and document 02, [4], on kind 12: what each kind says of row i, or of rows i and j.
+-- Document 01, "The twenty kinds", and document 02, [4] on kind 12, [7] on kinds 14, 21 and 22: what each kind says of row i, of rows i and j, or of
+-- filters k and m.
 -- Assumes nothing.
 use Prim.Native.Nat.{ℕ, _-_, _/_, _<_, _≤_, _%_, _^_}
 use mathlib.Core.Path.{_≡_}
 use mathlib.Core.Logic.{_⊎_}
 use mathlib.Core.List.{List, [], _∷_, _++_, map, List·Memᴰ}
 use lib.ListN.{length, getD}
-use Rattle.policy.specs.Model.{Table, noFilter, entityAt, rowAt, parentOf}
+use Rattle.policy.specs.Model.{Table, dropping, passing, entityAt, filterAt, rowAt, parentOf}
 use Rattle.relations.specs.Entities.{AtOrAbove, rootOf}
 use Rattle.relations.specs.Technologies.{layerOf, Dominates}
 use Rattle.relations.specs.Coefficients.{AtLeast}
@@ -28,6 +29,9 @@ Twice xs = (x : ℕ) × InOrder x x xs
 module _ (t : Table) where
   abbrev pub IsRow : ℕ → Type 0
   IsRow i = i < length (t .rows)
+
+  abbrev pub IsFilter : ℕ → Type 0
+  IsFilter k = k < length (t .filters)
 
   -- root(s) and root(d) of a row.
   abbrev pub sourceRoot : ℕ → ℕ
@@ -76,12 +80,22 @@ module _ (t : Table) where
     pub rides : Rides rider i
     pub at-least : (j : ℕ) → Rides j i → AtLeast (rowAt t j .coefficients) (rowAt t i .coefficients)
 
-  -- "14 filtered: one filter of a root in G has a box that contains S."
+  -- Filter k excepts packets of row i from filter m: an "earlier passing filter of that root overlapping S".
+  pub record Excepts (k m i : ℕ) : Type 0 where
+    pub earlier : k < m
+    pub passes : filterAt t k .action ≡ passing
+    pub root : filterAt t k .root ≡ filterAt t m .root
+    pub overlap : Overlap (filterAt t k .selector) (rowAt t i .selector)
+
+  -- "14 filtered: one filter of a root in G has a box that contains S." By document 02, [7], it "needs a dropping filter that contains S with no
+  -- earlier passing filter of that root overlapping S."
   pub record Filtered (i : ℕ) : Type 0 where
     pub filter : ℕ
-    pub there : filter < length (t .filters)
-    pub gateway : List·Memᴰ (getD (t .filters) filter noFilter .root) (rowAt t i .gateways)
-    pub contains : Contains (getD (t .filters) filter noFilter .selector) (rowAt t i .selector)
+    pub there : IsFilter filter
+    pub drops : filterAt t filter .action ≡ dropping
+    pub gateway : List·Memᴰ (filterAt t filter .root) (rowAt t i .gateways)
+    pub contains : Contains (filterAt t filter .selector) (rowAt t i .selector)
+    pub not-excepted : (k : ℕ) → Excepts k filter i → ⊥
 
   -- "15 layer two: t has layer 2 and G isn't empty."
   pub record LayerTwo (i : ℕ) : Type 0 where
@@ -226,3 +240,19 @@ module _ (t : Table) where
     pub ends : sourceRoot i ≡ destinationRoot j → ⊥
     pub confidential : 0 < getD (rowAt t i .coefficients) 2 0
     pub other-confidential : 0 < getD (rowAt t j .coefficients) 2 0
+
+  -- ---- of filters k and m
+
+  -- "Kind 21: two filters of one root, the earlier box contains the later, actions differ."
+  pub record FilterShadowing (k m : ℕ) : Type 0 where
+    pub earlier : k < m
+    pub root : filterAt t k .root ≡ filterAt t m .root
+    pub contains : Contains (filterAt t k .selector) (filterAt t m .selector)
+    pub actions : filterAt t k .action ≡ filterAt t m .action → ⊥
+
+  -- "Kind 22: two dropping filters of different roots, the first box contains the second, either order."
+  pub record FilterRedundancy (k m : ℕ) : Type 0 where
+    pub drops : filterAt t k .action ≡ dropping
+    pub other-drops : filterAt t m .action ≡ dropping
+    pub roots : filterAt t k .root ≡ filterAt t m .root → ⊥
+    pub contains : Contains (filterAt t k .selector) (filterAt t m .selector)

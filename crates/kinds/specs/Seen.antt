@@ -4,7 +4,7 @@ use Prim.Native.Nat.{ℕ}
 use mathlib.Core.Bool.{Bool}
 use mathlib.Core.List.{List}
 use lib.ListN.{length, getD}
-use Rattle.policy.specs.Model.{Coefficients, Filter, Table, noFilter, entityAt, parentOf}
+use Rattle.policy.specs.Model.{Coefficients, Filter, Table, entityAt, filterAt, parentOf}
 use Rattle.policy.specs.Views.{parentIn, rowIn, rowsIn, selectorIn, selectorOf, filterIn}
 use Rattle.policy.specs.declared.selector.Selector.{Selector as SelectorStruct}
 use Rattle.verdicts.specs.Verdicts.{verdictAfter, isNone}
@@ -32,7 +32,7 @@ seenOf t =
       caps = t .caps;
       floor = t .floor;
       filters = length (t .filters);
-      filter = λ k. getD (t .filters) k noFilter;
+      filter = filterAt t;
       rows = length (t .rows);
       placed = placedAt t;
       dead = dead t;
@@ -45,15 +45,15 @@ pairIn s i j = pairOf (s .up) i j (s .placed i) (s .placed j)
 -- ---- what is lent
 
 -- The caps and the floor are not runs; all else is.
-abbrev pub seenIn : (parents masks : List ℕ) (caps : List Coefficients) (floor : Coefficients) (filters : ℕ) (filterRoots heads bounds roots : List ℕ) (rows : ℕ) → Seen
-seenIn parents masks caps floor filters filterRoots heads bounds roots rows =
+abbrev pub seenIn : (parents masks : List ℕ) (caps : List Coefficients) (floor : Coefficients) (filters : ℕ) (filterRoots filterActions heads bounds roots : List ℕ) (rows : ℕ) → Seen
+seenIn parents masks caps floor filters filterRoots filterActions heads bounds roots rows =
     record {
       up = parentIn parents;
       mask = λ e. getD masks e 0;
       caps = caps;
       floor = floor;
       filters = filters;
-      filter = filterIn filterRoots bounds;
+      filter = filterIn filterRoots filterActions bounds;
       rows = rows;
       placed = placedIn heads bounds roots;
       dead = λ i. isNone (verdictAfter (parentIn parents) (rowsIn heads bounds i) (rowIn heads bounds i));

@@ -5,7 +5,7 @@ use mathlib.Core.Bool.{Bool, true, false, not, _&&_, _||_}
 use mathlib.Core.List.{List, [], _∷_, _++_}
 use lib.Dec.{eqb, ltb}
 use lib.ListN.{getD}
-use Rattle.policy.specs.Model.{Coefficients, Filter, Row, Selector, Table, parentOf}
+use Rattle.policy.specs.Model.{Coefficients, Filter, Row, Selector, Table, dropping, passing, parentOf}
 use Rattle.base.specs.Lists.{among, same, some}
 use Rattle.relations.specs.Entities.{atOrAbove}
 use Rattle.relations.specs.Technologies.{layerOf, dominates}
@@ -55,13 +55,25 @@ nonEnforceable from to caps r =
 abbrev pub inadequate : Coefficients → Row → Bool
 inadequate floor r = not (atLeast (r .coefficients) floor)
 
--- Whether the filter is of a root in G and contains S.
+-- Whether the filter drops, is of a root in G and contains S.
 unfoldable pub filters : Row → Filter → Bool
-filters r f = among (f .root) (r .gateways) && contains (f .selector) (r .selector)
+filters r f = eqb (f .action) dropping && (among (f .root) (r .gateways) && contains (f .selector) (r .selector))
+
+-- Whether the filter passes, is of this root and overlaps S.
+unfoldable pub excepts : Row → ℕ → Filter → Bool
+excepts r root f = eqb (f .action) passing && (eqb (f .root) root && overlaps (f .selector) (r .selector))
+
+-- One of the first so many filters, by number, excepts packets of the row at this root.
+unfoldable pub excepted : (ℕ → Filter) → ℕ → ℕ → Row → Bool
+excepted at count root r = some count (λ k. excepts r root (at k))
+
+-- Filter k filters the row, and no filter before it excepts.
+unfoldable pub filteredBy : (ℕ → Filter) → ℕ → Row → Bool
+filteredBy at k r = filters r (at k) && not (excepted at k (at k .root) r)
 
 -- 14, filtered, by one of so many filters, by number.
 unfoldable pub filtered : (ℕ → Filter) → ℕ → Row → Bool
-filtered at count r = some count (λ k. filters r (at k))
+filtered at count r = some count (λ k. filteredBy at k r)
 
 -- 15, layer two.
 unfoldable pub layerTwo : Row → Bool
@@ -193,6 +205,18 @@ skewed p = p .crossing && (not (p .null) && (not (p .«other_null») && (p .«so
 -- 18, monitorable.
 abbrev pub monitorable : Pair → Bool
 monitorable p = p .crossing && (p .through && (not (p .back) && p .confidential))
+
+-- ---- of two filters
+
+-- 21, shadowing among filters, of filter k, which is f, and filter m, which is g.
+unfoldable pub filterShadowing : ℕ → ℕ → Filter → Filter → Bool
+filterShadowing k m f g =
+    ltb k m && (eqb (f .root) (g .root) && (not (eqb (f .action) (g .action)) && contains (f .selector) (g .selector)))
+
+-- 22, redundancy among filters.
+unfoldable pub filterRedundancy : Filter → Filter → Bool
+filterRedundancy f g =
+    eqb (f .action) dropping && (eqb (g .action) dropping && (not (eqb (f .root) (g .root)) && contains (f .selector) (g .selector)))
 
 -- ---- of a table
 

@@ -1,4 +1,5 @@
-// The twenty kinds of anomalies: a function for each, equal to its test in specs/.
+// The twenty-two kinds of anomalies: a function for each, equal to its test in specs/.
+pub mod filter;
 pub mod numbers;
 pub mod pair;
 pub mod path;

@@ -39,10 +39,21 @@ pub const ALTERNATIVE_PATH: usize = 19;
 
 pub const DEAD: usize = 20;
 
-// How many kinds there are, which is the last one's number.
-pub const KINDS: usize = DEAD;
+pub const FILTER_SHADOWING: usize = 21;
 
-pub const LAST_KIND: u8 = KINDS as u8;
+pub const FILTER_REDUNDANCY: usize = 22;
+
+// How many kinds there are, which is the last one's number.
+pub const KINDS: usize = FILTER_REDUNDANCY;
+
+// The first kind of rows and how many there are, and the same of filters.
+pub const ROW_KIND: u8 = 1;
+
+pub const ROW_KINDS: u8 = 20;
+
+pub const FILTER_KIND: u8 = ROW_KIND + ROW_KINDS;
+
+pub const FILTER_KINDS: u8 = 2;
 
 // The second number of an entry of one row: FF.
 pub const NO_SECOND: u8 = 255;

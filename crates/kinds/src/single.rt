@@ -5,11 +5,13 @@ ghost use Prim.Native.Nat.{_≤_, _<_};
 ghost use Rattle.policy.specs.Limits.{mostFilters, mostRows, technologies};
 ghost use Rattle.policy.specs.Views.{rowOf, rowIn, coefficientsOf, filterOf, filterIn};
 ghost use Rattle.kinds.specs.Views.{placedOf, placedIn};
-ghost use Rattle.kinds.specs.Tests.{internalLoop, outOfPlace, lacks as lacksTest, nonEnforceable, inadequate as inadequateTest, filters as filtersTest, filtered as filteredTest, layerTwo, cyclic as cyclicTest, rides as ridesTest, superfluous as superfluousTest, answers as answersTest, asymmetric as asymmetricTest};
+ghost use Rattle.kinds.specs.Tests.{internalLoop, outOfPlace, lacks as lacksTest, nonEnforceable, inadequate as inadequateTest, filters as filtersTest, excepts as exceptsTest, excepted as exceptedTest, filteredBy as filteredByTest, filtered as filteredTest, layerTwo, cyclic as cyclicTest, rides as ridesTest, superfluous as superfluousTest, answers as answersTest, asymmetric as asymmetricTest};
 use crate::placed;
 use crate::placed::Placed;
 use crate::placed::Roots;
 use crate::roots;
+use policy::limits::DROPPING;
+use policy::limits::PASSING;
 use policy::row::Coefficients;
 use policy::row::Filter;
 use policy::row::Row;
@@ -102,21 +104,79 @@ pub fn superfluous<'a>(
     ridden
 }
 
-// Whether the filter is of a root in G and has a box that contains S.
+// Whether the filter drops, is of a root in G and has a box that contains S.
 fn filters(f: Filter, r: Row) -> bool
     ensures { λ b. ⌜ b ≡ filtersTest (rowOf r) (filterOf f) ⌝ }
 {
-    roots::is_gateway(f.root, r) & selector::contains(f.selector, r.selector)
+    (f.action == DROPPING)
+        & (roots::is_gateway(f.root, r) & selector::contains(f.selector, r.selector))
 }
 
-// 14, filtered: one filter of a root in G has a box that contains S.
-pub fn filtered<'a>(filter_roots: &'a PerFilter, bounds: &'a Bounds, count: usize, r: Row) -> bool
+// Whether the filter passes, is of this root and has a box that overlaps S.
+fn excepts(f: Filter, root: u8, r: Row) -> bool
+    ensures { λ b. ⌜ b ≡ exceptsTest (rowOf r) root (filterOf f) ⌝ }
+{
+    (f.action == PASSING) & ((f.root == root) & selector::overlaps(f.selector, r.selector))
+}
+
+// Whether one of the first `count` filters excepts packets of the row at this root.
+fn excepted<'a>(
+    filter_roots: &'a PerFilter,
+    filter_actions: &'a PerFilter,
+    bounds: &'a Bounds,
+    count: usize,
+    root: u8,
+    r: Row,
+) -> bool
     requires { ⌜ count ≤ mostFilters ⌝ }
-    ensures { λ b. ⌜ b ≡ filteredTest (filterIn (now («filter_roots» .entry)) (now (bounds .entry))) count (rowOf r) ⌝ }
+    ensures { λ b. ⌜ b ≡ exceptedTest (filterIn (now («filter_roots» .entry)) (now («filter_actions» .entry)) (now (bounds .entry))) count root (rowOf r) ⌝ }
 {
     let mut k = 0;
     while k < count {
-        if filters(table::filter_at(filter_roots, bounds, k), r) {
+        if excepts(
+            table::filter_at(filter_roots, filter_actions, bounds, k),
+            root,
+            r,
+        ) {
+            return true;
+        }
+        k += 1;
+    }
+    false
+}
+
+// Whether filter k filters the row, and no filter before it excepts.
+fn filtered_by<'a>(
+    filter_roots: &'a PerFilter,
+    filter_actions: &'a PerFilter,
+    bounds: &'a Bounds,
+    k: usize,
+    r: Row,
+) -> bool
+    requires { ⌜ k < mostFilters ⌝ }
+    ensures { λ b. ⌜ b ≡ filteredByTest (filterIn (now («filter_roots» .entry)) (now («filter_actions» .entry)) (now (bounds .entry))) k (rowOf r) ⌝ }
+{
+    let f = table::filter_at(filter_roots, filter_actions, bounds, k);
+    if !filters(f, r) {
+        return false;
+    }
+    !excepted(filter_roots, filter_actions, bounds, k, f.root, r)
+}
+
+// 14, filtered: one dropping filter of a root in G has a box that contains S, and no passing filter before it of that root overlaps S.
+pub fn filtered<'a>(
+    filter_roots: &'a PerFilter,
+    filter_actions: &'a PerFilter,
+    bounds: &'a Bounds,
+    count: usize,
+    r: Row,
+) -> bool
+    requires { ⌜ count ≤ mostFilters ⌝ }
+    ensures { λ b. ⌜ b ≡ filteredTest (filterIn (now («filter_roots» .entry)) (now («filter_actions» .entry)) (now (bounds .entry))) count (rowOf r) ⌝ }
+{
+    let mut k = 0;
+    while k < count {
+        if filtered_by(filter_roots, filter_actions, bounds, k, r) {
             return true;
         }
         k += 1;

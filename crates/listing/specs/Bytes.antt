@@ -1,5 +1,5 @@
 -- Document 01, List: "writes three bytes an entry (first row, kind, second number) in ascending order .., and returns the count. .. The rest
--- of the buffer is unchanged."
+-- of the buffer is unchanged." Those of filters have filter numbers.
 -- Assumes nothing.
 use Prim.Native.Nat.{ℕ, _+_, _*_, _≤_}
 use mathlib.Core.Path.{_≡_}
@@ -14,13 +14,13 @@ use Rattle.kinds.specs.Entries.{Entry, mostEntries}
 abbrev pub entryBytes : ℕ
 entryBytes = 3
 
--- "38,400 bytes"
+-- 41,376 bytes
 abbrev pub listBytes : ℕ
 listBytes = entryBytes * mostEntries
 
 unfoldable pub bytes : List Entry → List ℕ
 bytes [] = []
-bytes (e ∷ es) = e .row ∷ e .kind ∷ e .second ∷ bytes es
+bytes (e ∷ es) = e .first ∷ e .kind ∷ e .second ∷ bytes es
 
 -- What becomes of the buffer, and what is answered.
 abbrev pub Listing : List Entry → (before after : List ℕ) → Written → Type 0

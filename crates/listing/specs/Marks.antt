@@ -1,17 +1,19 @@
--- The kinds that hold of a row, or of two, as a number: bit k for kind k.
+-- The kinds that hold of a row, of two, or of two filters, as a number: bit k for kind k.
 -- Assumes nothing.
 use Prim.Native.Nat.{ℕ, _+_, _*_, _≤_, _<_}
 use mathlib.Core.Path.{_≡_}
-use mathlib.Core.Bool.{Bool}
+use mathlib.Core.Bool.{Bool, _&&_, _||_}
 use mathlib.Core.List.{List, [], _∷_, _++_, map}
+use lib.Bits.{bitOr}
 use lib.Count.{ones}
-use lib.ListN.{getD}
+use lib.Dec.{ltb}
+use lib.ListN.{length, getD}
 use lib.Seq.{sets}
 use Rattle.base.specs.Truths.{pick}
 use Rattle.base.specs.Bits.{bitsOf, marked}
 use Rattle.policy.specs.Limits.{mostEntities, technologies, mostFilters, mostRows}
 use Rattle.policy.specs.Model.{Row}
-use Rattle.policy.specs.Views.{parentIn, rowIn, coefficientsOf}
+use Rattle.policy.specs.Views.{parentIn, rowIn, coefficientsOf, filterIn}
 use Rattle.policy.specs.Wellformed.{Ordered}
 use Rattle.policy.specs.declared.row.Coefficients.{Coefficients as CoefficientsStruct}
 use Rattle.relations.specs.Entities.{Parents}
@@ -19,8 +21,9 @@ use Rattle.base.specs.Lists.{tabulate}
 use Rattle.kinds.specs.Views.{fromIn, toIn, placedIn}
 use Rattle.kinds.specs.Tests.{pairOf}
 use Rattle.kinds.specs.Seen.{seenIn}
-use Rattle.kinds.specs.Kinds.{kindCount, noSecond, rowTests, pairTests}
-use Rattle.kinds.specs.Entries.{Entry, entry, gather, sum}
+use Rattle.kinds.specs.Kinds.{kindCount, noSecond, rowTests, pairTests, filterTests}
+use Rattle.kinds.specs.Entries.{Entry, entry, gather, sum, Block}
+use Rattle.listing.specs.declared.put.Block.{Block as BlockStruct}
 
 -- ---- what is asked of the rows that are lent
 
@@ -53,17 +56,23 @@ pub record GoodAmong (parents heads bounds : List ℕ) (rows i : ℕ) : Type 0 w
 -- ---- the marks
 
 -- The number has the kinds of row i alone.
-pub record MarkedAlone (parents masks : List ℕ) (caps : List CoefficientsStruct) (floor : CoefficientsStruct) (filters : ℕ) (filterRoots heads bounds roots : List ℕ) (rows i m : ℕ) : Type 0 where
-  pub marks : m ≡ bitsOf (rowTests (seenIn parents masks (map coefficientsOf caps) (coefficientsOf floor) filters filterRoots heads bounds roots rows) i)
+pub record MarkedAlone (parents masks : List ℕ) (caps : List CoefficientsStruct) (floor : CoefficientsStruct) (filters : ℕ) (filterRoots filterActions heads bounds roots : List ℕ) (rows i m : ℕ) : Type 0 where
+  pub marks : m
+      ≡ bitsOf (rowTests (seenIn parents masks (map coefficientsOf caps) (coefficientsOf floor) filters filterRoots filterActions heads bounds roots rows) i)
 
 -- The kinds of rows i and j.
 abbrev pub pairMarks : (parents heads bounds roots : List ℕ) (i j : ℕ) → ℕ
 pairMarks parents heads bounds roots i j =
     bitsOf (pairTests (pairOf (parentIn parents) i j (placedIn heads bounds roots i) (placedIn heads bounds roots j)))
 
--- ---- the marks that are kept: a number for each row, and one for each two
+-- The kinds of filters k and m.
+abbrev pub filterMarks : (roots actions bounds : List ℕ) (k m : ℕ) → ℕ
+filterMarks roots actions bounds k m =
+    bitsOf (filterTests k m (filterIn roots actions bounds k) (filterIn roots actions bounds m))
 
--- The number of rows i and j; each row has room for as many as there can be.
+-- ---- the marks that are kept: a number for each row, and one for each two rows and two filters
+
+-- The number of rows i and j, and of filters i and j; each has room for as many as there can be rows.
 abbrev pub markAt : List ℕ → ℕ → ℕ → ℕ
 markAt pairs i j = getD pairs (mostRows * i + j) 0
 
@@ -75,21 +84,43 @@ pub record MarkedPairs (parents heads bounds roots : List ℕ) (rows i : ℕ) (b
 abbrev pub rowCount : ℕ → List ℕ → ℕ → ℕ → ℕ
 rowCount own pairs rows i = ones own + sum rows 0 (λ j. ones (markAt pairs i j))
 
+-- The kinds of filter k and each filter are added to those in its places, and there are n of them; the others stay.
+pub record MarkedFilter (roots actions bounds : List ℕ) (filters k : ℕ) (before after : List ℕ) (n : ℕ) : Type 0 where
+  pub stored : after ≡ sets before (mostRows * k) (tabulate (λ m. bitOr (markAt before k m) (filterMarks roots actions bounds k m)) filters)
+  pub count : n ≡ sum filters 0 (λ m. ones (filterMarks roots actions bounds k m))
+
+-- The same of the first so many of the filters: the kinds that are marked then are those before, and those of filters i and j.
+pub record MarkedFilters (roots actions bounds : List ℕ) (filters upto : ℕ) (before after : List ℕ) (n : ℕ) : Type 0 where
+  pub long : length after ≡ length before
+  pub marks : (i j kind : ℕ) → i < mostRows → j < mostRows
+      → marked (markAt after i j) kind
+      ≡ (marked (markAt before i j) kind || (ltb i upto && (ltb j filters && marked (filterMarks roots actions bounds i j) kind)))
+  pub count : n ≡ sum upto 0 (λ k. sum filters 0 (λ m. ones (filterMarks roots actions bounds k m)))
+
 -- ---- the entries that are marked
 
 abbrev pub listedIf : Bool → ℕ → ℕ → ℕ → List Entry
 listedIf b i kind j = pick b (entry i kind j ∷ []) []
 
--- Of row i, whose own kinds are marked in own.
+-- Of thing i, whose own kinds are marked in own, of so many.
 abbrev pub pairsMarked : List ℕ → ℕ → ℕ → ℕ → List Entry
-pairsMarked pairs rows i kind = gather rows 0 (λ j. listedIf (marked (markAt pairs i j) kind) i kind j)
+pairsMarked pairs things i kind = gather things 0 (λ j. listedIf (marked (markAt pairs i j) kind) i kind j)
 
 abbrev pub kindMarked : ℕ → List ℕ → ℕ → ℕ → ℕ → List Entry
-kindMarked own pairs rows i kind = pairsMarked pairs rows i kind ++ listedIf (marked own kind) i kind noSecond
+kindMarked own pairs things i kind = pairsMarked pairs things i kind ++ listedIf (marked own kind) i kind noSecond
 
-abbrev pub rowMarked : ℕ → List ℕ → ℕ → ℕ → List Entry
-rowMarked own pairs rows i = gather kindCount 1 (kindMarked own pairs rows i)
+-- Of each kind of a block.
+abbrev pub thingMarked : ℕ → List ℕ → Block → ℕ → List Entry
+thingMarked own pairs b i = gather (b .kinds) (b .kind) (kindMarked own pairs (b .things) i)
 
--- Of each row, whose own kinds are marked at its place.
-abbrev pub allMarked : List ℕ → List ℕ → ℕ → List Entry
-allMarked own pairs rows = gather rows 0 (λ i. rowMarked (getD own i 0) pairs rows i)
+-- Of each thing, whose own kinds are marked at its place.
+abbrev pub blockMarked : List ℕ → List ℕ → Block → List Entry
+blockMarked own pairs b = gather (b .things) 0 (λ i. thingMarked (getD own i 0) pairs b i)
+
+-- The block of the code's struct; there is room for its things, and its kinds are among all.
+abbrev pub blockOf : BlockStruct → Block
+blockOf b = record { things = b .things; kind = b .kind; kinds = b .kinds }
+
+pub record BlockFits (b : BlockStruct) : Type 0 where
+  pub few : b .things ≤ mostRows
+  pub among : b .kind + b .kinds ≤ kindCount + 1

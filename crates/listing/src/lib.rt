@@ -10,19 +10,21 @@ ghost use Rattle.listing.specs.Bytes.{Listing};
 use crate::limits::ENTRY_BYTES;
 use crate::marks::Marks;
 use crate::marks::PairMarks;
+use crate::put::Block;
 use base::Written;
+use kinds::numbers;
 use kinds::placed;
 use policy::limits::ROWS;
 use policy::table::Table;
 
-// The kinds of each row alone, and with each row.
+// The kinds of each row alone, and of each two rows and two filters.
 struct Kept {
     own: Marks,
     pairs: PairMarks,
 }
 
 // Writes the table's entries into out from its start, three bytes each, if there is room for all; the rest of out is unchanged, and all of it
-// where it is too short. The kinds of each row are marked first, and counted.
+// where it is too short. The kinds of rows and filters are marked first, and counted.
 pub fn list(t: Table, out: &mut [u8]) -> Written
     requires { ⌜ Held t × Wellformed (tableOf t) ⌝ }
     ensures { λ r. ⌜ Listing (entries (tableOf t)) (now (out .entry)) (now (out .exit)) r ⌝ }
@@ -42,6 +44,7 @@ pub fn list(t: Table, out: &mut [u8]) -> Written
             t.floor,
             t.filters,
             &t.filter_roots,
+            &t.filter_actions,
             &t.heads,
             &t.bounds,
             &roots,
@@ -61,9 +64,27 @@ pub fn list(t: Table, out: &mut [u8]) -> Written
         n += marks::count_row(alone, &kept.pairs, t.rows, i) as usize;
         i += 1;
     }
+    n += marks::of_filters(
+        &t.filter_roots,
+        &t.filter_actions,
+        &t.bounds,
+        t.filters,
+        &mut kept.pairs,
+    ) as usize;
     if out.len() < ENTRY_BYTES * n {
         return Written::Short;
     }
-    put::put_rows(out, &kept.own, &kept.pairs, t.rows);
+    let rows = Block {
+        things: t.rows,
+        kind: numbers::ROW_KIND,
+        kinds: numbers::ROW_KINDS,
+    };
+    let filters = Block {
+        things: t.filters,
+        kind: numbers::FILTER_KIND,
+        kinds: numbers::FILTER_KINDS,
+    };
+    let m = put::put_block(out, 0, &kept.own, &kept.pairs, rows);
+    put::put_block(out, m, &kept.own, &kept.pairs, filters);
     Written::Count(n)
 }

@@ -1,17 +1,18 @@
-// The kinds that hold of a row, or of two, as a number: bit k for kind k.
+// The kinds that hold of a row, of two, or of two filters, as a number: bit k for kind k.
 ghost use mathlib.Core.Path.{_≡_};
-ghost use Prim.Native.Nat.{_+_, _≤_, _<_};
+ghost use Prim.Native.Nat.{_+_, _*_, _≤_, _<_};
 ghost use lib.ListN.{length};
-ghost use Rattle.policy.specs.Limits.{mostRows};
-ghost use Rattle.policy.specs.Views.{parentIn, rowOf};
+ghost use Rattle.policy.specs.Limits.{mostFilters, mostRows};
+ghost use Rattle.policy.specs.Views.{parentIn, rowOf, filterOf};
 ghost use Rattle.relations.specs.Entities.{Parents};
 ghost use Rattle.base.specs.Truths.{bit as bitOf};
 ghost use Rattle.kinds.specs.Views.{placedOf};
 ghost use Rattle.kinds.specs.Tests.{pairOf};
-ghost use Rattle.kinds.specs.Kinds.{kindCount, pairTests};
+ghost use Rattle.kinds.specs.Kinds.{kindCount, pairTests, filterTests};
 ghost use Rattle.kinds.specs.Entries.{mostEntries};
 ghost use Rattle.base.specs.Bits.{bitsOf, marked as markedTest};
-ghost use Rattle.listing.specs.Marks.{GoodRow, GoodAlone, GoodAmong, MarkedAlone, MarkedPairs, rowCount};
+ghost use Rattle.listing.specs.Marks.{GoodRow, GoodAlone, GoodAmong, MarkedAlone, MarkedPairs, MarkedFilter, MarkedFilters, rowCount};
+use kinds::filter;
 use kinds::numbers;
 use kinds::pair;
 use kinds::path;
@@ -21,6 +22,8 @@ use kinds::placed::Roots;
 use kinds::single;
 use policy::limits::ROWS;
 use policy::row::Coefficients;
+use policy::row::Filter;
+use policy::table;
 use policy::table::Bounds;
 use policy::table::Caps;
 use policy::table::Heads;
@@ -31,7 +34,7 @@ use relations::selector;
 // A number for each row.
 pub type Marks = [u32; ROWS];
 
-// A number for each two rows: that of rows i and j at ROWS * i + j.
+// A number for each two rows, and each two filters: that of rows i and j, and of filters i and j, at ROWS * i + j.
 pub type PairMarks = [u32; ROWS * ROWS];
 
 // Whether each kind holds, at its number; 0 is no kind's.
@@ -133,6 +136,7 @@ pub fn of_row<'a>(
     floor: Coefficients,
     filters: usize,
     filter_roots: &'a PerFilter,
+    filter_actions: &'a PerFilter,
     heads: &'a Heads,
     bounds: &'a Bounds,
     roots: &'a Roots,
@@ -140,7 +144,7 @@ pub fn of_row<'a>(
     i: usize,
 ) -> u32
     requires { ⌜ GoodAlone (now parents) (now heads) (now bounds) (now roots) filters rows i ⌝ }
-    ensures { λ r. ⌜ MarkedAlone (now (parents .entry)) (now (masks .entry)) caps floor filters (now («filter_roots» .entry)) (now (heads .entry)) (now (bounds .entry)) (now (roots .entry)) rows i r ⌝ }
+    ensures { λ r. ⌜ MarkedAlone (now (parents .entry)) (now (masks .entry)) caps floor filters (now («filter_roots» .entry)) (now («filter_actions» .entry)) (now (heads .entry)) (now (bounds .entry)) (now (roots .entry)) rows i r ⌝ }
 {
     let p = placed::placed_at(heads, bounds, roots, i);
     let r = p.row;
@@ -155,11 +159,66 @@ pub fn of_row<'a>(
     );
     holds[numbers::INADEQUATE] = single::inadequate(floor, r);
     holds[numbers::SUPERFLUOUS] = single::superfluous(heads, bounds, roots, rows, i);
-    holds[numbers::FILTERED] = single::filtered(filter_roots, bounds, filters, r);
+    holds[numbers::FILTERED] = single::filtered(filter_roots, filter_actions, bounds, filters, r);
     holds[numbers::LAYER_TWO] = single::layer_two(r);
     holds[numbers::ASYMMETRIC] = single::asymmetric(heads, bounds, rows, i);
     holds[numbers::CYCLIC] = single::cyclic(p);
     holds[numbers::ALTERNATIVE_PATH] = path::alternative_path(bounds, roots, rows, i);
     holds[numbers::DEAD] = verdicts::is_dead(parents, heads, bounds, i);
     bits_of(&holds)
+}
+
+// The kinds of filters k and m, which are f and g.
+fn of_filter_pair(k: usize, m: usize, f: Filter, g: Filter) -> u32
+    ensures { λ r. ⌜ r ≡ bitsOf (filterTests k m (filterOf f) (filterOf g)) ⌝ }
+{
+    let mut holds = [false; numbers::KINDS + 1];
+    holds[numbers::FILTER_SHADOWING] = filter::shadowing(k, m, f, g);
+    holds[numbers::FILTER_REDUNDANCY] = filter::redundancy(f, g);
+    bits_of(&holds)
+}
+
+// Adds the kinds of filter k and each filter to those in filter k's places of pairs; the others are unchanged. Returns how many they are.
+fn of_filter<'a>(
+    roots: &'a PerFilter,
+    actions: &'a PerFilter,
+    bounds: &'a Bounds,
+    filters: usize,
+    k: usize,
+    pairs: &'a mut PairMarks,
+) -> u32
+    requires { ⌜ (k < filters) × (filters ≤ mostFilters) ⌝ }
+    ensures { λ r. ⌜ MarkedFilter (now (roots .entry)) (now (actions .entry)) (now (bounds .entry)) filters k (now (pairs .entry)) (now (pairs .exit)) r ⌝ }
+{
+    let f = table::filter_at(roots, actions, bounds, k);
+    let at = ROWS * k;
+    let mut n = 0;
+    let mut m = 0;
+    while m < filters {
+        let marks = of_filter_pair(k, m, f, table::filter_at(roots, actions, bounds, m));
+        n += u32::count_ones(marks);
+        pairs[at + m] = pairs[at + m] | marks;
+        m += 1;
+    }
+    n
+}
+
+// Adds the kinds of each two filters to those in their places of pairs; the others are unchanged. Returns how many they are.
+pub fn of_filters<'a>(
+    roots: &'a PerFilter,
+    actions: &'a PerFilter,
+    bounds: &'a Bounds,
+    filters: usize,
+    pairs: &'a mut PairMarks,
+) -> u32
+    requires { ⌜ (filters ≤ mostFilters) × (length (now pairs) ≡ mostRows * mostRows) ⌝ }
+    ensures { λ r. ⌜ MarkedFilters (now (roots .entry)) (now (actions .entry)) (now (bounds .entry)) filters filters (now (pairs .entry)) (now (pairs .exit)) r ⌝ }
+{
+    let mut n = 0;
+    let mut k = 0;
+    while k < filters {
+        n += of_filter(roots, actions, bounds, filters, k, pairs);
+        k += 1;
+    }
+    n
 }

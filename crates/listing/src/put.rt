@@ -4,13 +4,20 @@ ghost use lib.ListN.{length};
 ghost use Rattle.policy.specs.Limits.{mostRows};
 ghost use Rattle.kinds.specs.Kinds.{kindCount};
 ghost use Rattle.listing.specs.Bytes.{Room, Put};
-ghost use Rattle.listing.specs.Marks.{listedIf, pairsMarked, kindMarked, rowMarked, allMarked};
+ghost use Rattle.listing.specs.Marks.{listedIf, pairsMarked, kindMarked, thingMarked, blockMarked, blockOf, BlockFits};
 use crate::limits::ENTRY_BYTES;
 use crate::marks;
 use crate::marks::Marks;
 use crate::marks::PairMarks;
 use kinds::numbers;
 use policy::limits::ROWS;
+
+// A block of entries is of so many things, rows or filters, and of so many kinds from one on.
+pub struct Block {
+    pub things: usize,
+    pub kind: u8,
+    pub kinds: u8,
+}
 
 // Writes the entry after n others, if it is listed. Returns how many there are then; the rest of out is unchanged.
 fn put(out: &mut [u8], n: usize, i: u8, kind: u8, j: u8, listed: bool) -> usize
@@ -27,29 +34,30 @@ fn put(out: &mut [u8], n: usize, i: u8, kind: u8, j: u8, listed: bool) -> usize
     n
 }
 
-// Writes row i's entries of a kind with each row, after n others. Returns how many there are then; the rest of out is unchanged.
+// Writes the entries of thing i and a kind with each of so many things, after n others. Returns how many there are then; the rest of out is unchanged.
 fn put_pairs<'a>(
     out: &'a mut [u8],
     n: usize,
     i: u8,
     kind: u8,
     pairs: &'a PairMarks,
-    rows: usize,
+    things: usize,
 ) -> usize
-    requires { ⌜ Room (length (now out)) n (pairsMarked (now pairs) rows i kind) × (i < rows) × (rows ≤ mostRows) × (kind ≤ kindCount) ⌝ }
-    ensures { λ r. ⌜ Put (now (out .entry)) n (now (out .exit)) r (pairsMarked (now (pairs .entry)) rows i kind) ⌝ }
+    requires { ⌜ Room (length (now out)) n (pairsMarked (now pairs) things i kind) × (i < things) × (things ≤ mostRows) × (kind ≤ kindCount) ⌝ }
+    ensures { λ r. ⌜ Put (now (out .entry)) n (now (out .exit)) r (pairsMarked (now (pairs .entry)) things i kind) ⌝ }
 {
     let at = ROWS * i as usize;
     let mut m = n;
     let mut j = 0;
-    while j < rows {
+    while j < things {
         m = put(out, m, i, kind, j as u8, marks::marked(pairs[at + j], kind));
         j += 1;
     }
     m
 }
 
-// Writes row i's entries of a kind, with each row and then alone, after n others. Returns how many there are then; the rest of out is unchanged.
+// Writes the entries of thing i and a kind, with each of so many things and then alone, after n others. Returns how many there are then; the rest
+// of out is unchanged.
 fn put_kind<'a>(
     out: &'a mut [u8],
     n: usize,
@@ -57,12 +65,12 @@ fn put_kind<'a>(
     kind: u8,
     own: u32,
     pairs: &'a PairMarks,
-    rows: usize,
+    things: usize,
 ) -> usize
-    requires { ⌜ Room (length (now out)) n (kindMarked own (now pairs) rows i kind) × (i < rows) × (rows ≤ mostRows) × (kind ≤ kindCount) ⌝ }
-    ensures { λ r. ⌜ Put (now (out .entry)) n (now (out .exit)) r (kindMarked own (now (pairs .entry)) rows i kind) ⌝ }
+    requires { ⌜ Room (length (now out)) n (kindMarked own (now pairs) things i kind) × (i < things) × (things ≤ mostRows) × (kind ≤ kindCount) ⌝ }
+    ensures { λ r. ⌜ Put (now (out .entry)) n (now (out .exit)) r (kindMarked own (now (pairs .entry)) things i kind) ⌝ }
 {
-    let m = put_pairs(out, n, i, kind, pairs, rows);
+    let m = put_pairs(out, n, i, kind, pairs, things);
     put(
         out,
         m,
@@ -73,37 +81,44 @@ fn put_kind<'a>(
     )
 }
 
-// Writes row i's entries, kind by kind, after n others. Returns how many there are then; the rest of out is unchanged.
-fn put_row<'a>(
+// Writes the entries of thing i, kind by kind, after n others. Returns how many there are then; the rest of out is unchanged.
+fn put_thing<'a>(
     out: &'a mut [u8],
     n: usize,
     i: u8,
     own: u32,
     pairs: &'a PairMarks,
-    rows: usize,
+    b: Block,
 ) -> usize
-    requires { ⌜ Room (length (now out)) n (rowMarked own (now pairs) rows i) × (i < rows) × (rows ≤ mostRows) ⌝ }
-    ensures { λ r. ⌜ Put (now (out .entry)) n (now (out .exit)) r (rowMarked own (now (pairs .entry)) rows i) ⌝ }
+    requires { ⌜ Room (length (now out)) n (thingMarked own (now pairs) (blockOf b) i) × (i < b .things) × BlockFits b ⌝ }
+    ensures { λ r. ⌜ Put (now (out .entry)) n (now (out .exit)) r (thingMarked own (now (pairs .entry)) (blockOf b) i) ⌝ }
 {
+    let end = b.kind + b.kinds;
     let mut m = n;
-    let mut kind = 1;
-    while kind <= numbers::LAST_KIND {
-        m = put_kind(out, m, i, kind, own, pairs, rows);
+    let mut kind = b.kind;
+    while kind < end {
+        m = put_kind(out, m, i, kind, own, pairs, b.things);
         kind += 1;
     }
     m
 }
 
-// Writes the entries of each row, row by row, from the start of out. Returns how many there are; the rest of out is unchanged.
-pub fn put_rows<'a>(out: &'a mut [u8], own: &'a Marks, pairs: &'a PairMarks, rows: usize) -> usize
-    requires { ⌜ Room (length (now out)) 0 (allMarked (now own) (now pairs) rows) × (rows ≤ mostRows) ⌝ }
-    ensures { λ r. ⌜ Put (now (out .entry)) 0 (now (out .exit)) r (allMarked (now (own .entry)) (now (pairs .entry)) rows) ⌝ }
+// Writes the entries of a block, thing by thing, after n others. Returns how many there are then; the rest of out is unchanged.
+pub fn put_block<'a>(
+    out: &'a mut [u8],
+    n: usize,
+    own: &'a Marks,
+    pairs: &'a PairMarks,
+    b: Block,
+) -> usize
+    requires { ⌜ Room (length (now out)) n (blockMarked (now own) (now pairs) (blockOf b)) × BlockFits b ⌝ }
+    ensures { λ r. ⌜ Put (now (out .entry)) n (now (out .exit)) r (blockMarked (now (own .entry)) (now (pairs .entry)) (blockOf b)) ⌝ }
 {
-    let mut n = 0;
+    let mut m = n;
     let mut i = 0;
-    while i < rows {
-        n = put_row(out, n, i as u8, own[i], pairs, rows);
+    while i < b.things {
+        m = put_thing(out, m, i as u8, own[i], pairs, b);
         i += 1;
     }
-    n
+    m
 }

@@ -31,10 +31,18 @@ Selector = List Range
 abbrev pub Packet : Type 0
 Packet = List ℕ
 
--- The root drops packets in the selector.
+-- Document 02, [7]: "0 to drop and 1 to pass".
+abbrev pub dropping : ℕ
+dropping = 0
+
+abbrev pub passing : ℕ
+passing = 1
+
+-- The root drops packets in the selector, or passes them.
 pub record Filter : Type 0 where
   pub root : ℕ
   pub selector : Selector
+  pub action : ℕ
 
 pub record Row : Type 0 where
   -- the root where the row is installed
@@ -47,7 +55,7 @@ pub record Row : Type 0 where
   -- the gateway roots, document 01's G
   pub gateways : List ℕ
 
--- Entities and rows are numbered from 0 in text order; caps are those of technologies 1, 2, ..
+-- Entities, filters and rows are numbered from 0 in text order; caps are those of technologies 1, 2, ..
 pub record Table : Type 0 where
   pub entities : List Entity
   pub caps : List Coefficients
@@ -76,7 +84,7 @@ abbrev pub noRange : Range
 noRange = record { low = 0; high = 0 }
 
 abbrev pub noFilter : Filter
-noFilter = record { root = 0; selector = [] }
+noFilter = record { root = 0; selector = []; action = dropping }
 
 abbrev pub noRow : Row
 noRow =
@@ -92,6 +100,9 @@ noRow =
 
 abbrev pub entityAt : Table → ℕ → Entity
 entityAt t e = getD (t .entities) e noEntity
+
+abbrev pub filterAt : Table → ℕ → Filter
+filterAt t k = getD (t .filters) k noFilter
 
 abbrev pub rowAt : Table → ℕ → Row
 rowAt t i = getD (t .rows) i noRow

@@ -51,7 +51,7 @@ abbrev pub coefficientsOf : CoefficientsStruct → Coefficients
 coefficientsOf c = c .header ∷ c .payload ∷ c .confidentiality ∷ []
 
 abbrev pub filterOf : FilterStruct → Filter
-filterOf f = record { root = f .root; selector = selectorOf (f .selector) }
+filterOf f = record { root = f .root; selector = selectorOf (f .selector); action = f .action }
 
 abbrev pub rowOf : RowStruct → Row
 rowOf r =
@@ -89,8 +89,8 @@ rangeIn bounds k f = rangeAt bounds (fieldCount * k + f)
 abbrev pub selectorIn : List ℕ → ℕ → Selector
 selectorIn bounds k = tabulate (rangeIn bounds k) fieldCount
 
-abbrev pub filterIn : List ℕ → List ℕ → ℕ → Filter
-filterIn roots bounds k = record { root = getD roots k 0; selector = selectorIn bounds (mostRows + k) }
+abbrev pub filterIn : (roots actions bounds : List ℕ) → ℕ → Filter
+filterIn roots actions bounds k = record { root = getD roots k 0; selector = selectorIn bounds (mostRows + k); action = getD actions k 0 }
 
 -- The numbers of the thing at i of a run of things with n numbers each.
 unfoldable pub numbersAt : ℕ → List ℕ → ℕ → List ℕ
@@ -127,7 +127,7 @@ tableOf t =
       entities = tabulate (entityIn (t .parents) (t .layers) (t .masks)) (t .entities);
       caps = map coefficientsOf (take (t .capped) (t .caps));
       floor = coefficientsOf (t .floor);
-      filters = tabulate (filterIn (t .«filter_roots») (t .bounds)) (t .filters);
+      filters = tabulate (filterIn (t .«filter_roots») (t .«filter_actions») (t .bounds)) (t .filters);
       rows = rowsIn (t .heads) (t .bounds) (t .rows);
     }
 

@@ -6,7 +6,7 @@ use mathlib.Core.Logic.{_⊎_}
 use mathlib.Core.List.{List, [], _∷_, List·Memᴰ}
 use lib.ListN.{length, getD}
 use Rattle.policy.specs.Limits.{mostEntities, technologies, mostFilters, mostRows, mostGateways, coefficientCount}
-use Rattle.policy.specs.Model.{Entity, Coefficients, Selector, Filter, Row, Table, noParent, noFilter, entityAt, rowAt}
+use Rattle.policy.specs.Model.{Entity, Coefficients, Selector, Filter, Row, Table, noParent, passing, noFilter, entityAt, rowAt}
 
 -- "A root (a network node) has parent FF and layer 0 .. bits 0 and 7 are 0."
 pub record RootRule (e : Entity) : Type 0 where
@@ -64,6 +64,8 @@ pub record SelectorRule (s : Selector) : Type 0 where
 pub record FilterRule (t : Table) (f : Filter) : Type 0 where
   pub root : IsRoot t (f .root)
   pub selector : SelectorRule (f .selector)
+  -- "An action above 1 is refused"
+  pub action : f .action ≤ passing
 
 pub record RowRule (t : Table) (r : Row) : Type 0 where
   pub holder : IsRoot t (r .holder)

@@ -22,3 +22,8 @@ pub const HEAD_COUNT: usize = 8 + GATEWAYS;
 
 // The parent of a root, which is no entity's number.
 pub const NO_PARENT: u8 = 255;
+
+// The actions of filters.
+pub const DROPPING: u8 = 0;
+
+pub const PASSING: u8 = 1;

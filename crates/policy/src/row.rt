@@ -18,9 +18,11 @@ pub struct Coefficients {
     pub confidentiality: u8,
 }
 
+// The root drops packets in the selector, or passes them, by the action.
 pub struct Filter {
     pub root: u8,
     pub selector: Selector,
+    pub action: u8,
 }
 
 // Room for the gateways of a row.

@@ -46,9 +46,10 @@ pub struct Table {
     pub capped: usize,
     pub caps: Caps,
     pub floor: Coefficients,
-    // how many filters there are, and of each its root
+    // how many filters there are, and of each its root and its action
     pub filters: usize,
     pub filter_roots: PerFilter,
+    pub filter_actions: PerFilter,
     // how many rows there are, and of each its head
     pub rows: usize,
     pub heads: Heads,
@@ -123,13 +124,19 @@ pub fn row_at<'a>(heads: &'a Heads, bounds: &'a Bounds, i: usize) -> Row
 }
 
 // The filter at k.
-pub fn filter_at<'a>(roots: &'a PerFilter, bounds: &'a Bounds, k: usize) -> Filter
+pub fn filter_at<'a>(
+    roots: &'a PerFilter,
+    actions: &'a PerFilter,
+    bounds: &'a Bounds,
+    k: usize,
+) -> Filter
     requires { ⌜ k < mostFilters ⌝ }
-    ensures { λ r. ⌜ filterOf r ≡ filterIn (now (roots .entry)) (now (bounds .entry)) k ⌝ }
+    ensures { λ r. ⌜ filterOf r ≡ filterIn (now (roots .entry)) (now (actions .entry)) (now (bounds .entry)) k ⌝ }
 {
     Filter {
         root: roots[k],
         selector: selector_at(bounds, ROWS + k),
+        action: actions[k],
     }
 }
 
@@ -188,6 +195,7 @@ impl Table {
             floor: zero,
             filters: 0,
             filter_roots: [0; FILTERS],
+            filter_actions: [0; FILTERS],
             rows: 0,
             heads: [0; HEAD_COUNT * ROWS],
             bounds: [0; BOUND_COUNT * SELECTORS],
@@ -234,6 +242,7 @@ impl Table {
     {
         let k = self.filters;
         self.filter_roots[k] = f.root;
+        self.filter_actions[k] = f.action;
         put_selector(&mut self.bounds, ROWS + k, f.selector);
         self.filters = k + 1;
         self

@@ -28,11 +28,11 @@ abbrev pub refusalLine : ℕ → ℕ → List ℕ
 refusalLine number line = mark ∷ (lineOf (number ∷ line ∷ []) ++ (lineFeed ∷ []))
 
 abbrev pub entryLine : ℕ → ℕ → ℕ → List ℕ
-entryLine row kind second = lineOf (row ∷ kind ∷ second ∷ []) ++ (lineFeed ∷ [])
+entryLine first kind second = lineOf (first ∷ kind ∷ second ∷ []) ++ (lineFeed ∷ [])
 
 unfoldable pub entryLines : List Entry → List ℕ
 entryLines [] = []
-entryLines (e ∷ es) = entryLine (e .row) (e .kind) (e .second) ++ entryLines es
+entryLines (e ∷ es) = entryLine (e .first) (e .kind) (e .second) ++ entryLines es
 
 -- The same of the bytes of entries, three each.
 unfoldable pub hexLines : List ℕ → List ℕ

@@ -44,7 +44,7 @@ judgedOf noFrame = nothingJudged
 pub data Fault (before : List Frame) (line : List ℕ) : ℕ → Type 0 where
   -- "empty line, other character, odd digits"
   no-line : NoLine line → Fault before line 1
-  -- "unknown kind, length not the kind's, n above 8"
+  -- "unknown kind, length not the kind's, n above 8", "an action above 1"
   no-form : (HasForm (bytesOf line) → ⊥) → Fault before line 2
   -- "the sequence can't go on so"
   no-place : (Begins (before ++ (frameOf (bytesOf line) ∷ [])) → ⊥) → Fault before line 3

@@ -1,4 +1,4 @@
--- Document 01, "The table text": the form of a frame, and what the bytes of a line say. That `frameOf` reads just this is a law.
+-- Document 01, "The table text", and document 02, [7], on filters: the form of a frame, and what the bytes of a line say. That `frameOf` reads just this is a law.
 -- Assumes nothing.
 use Prim.Native.Nat.{ℕ, _+_, _≤_}
 use mathlib.Core.Path.{_≡_}
@@ -17,6 +17,8 @@ pub data HasForm (bs : List ℕ) : Type 0 where
   floor-form : getD bs 0 0 ≡ 3 → length bs ≡ 4 → HasForm bs
   -- "04 filter, 28 bytes"
   filter-form : getD bs 0 0 ≡ 4 → length bs ≡ 28 → HasForm bs
+  -- "A filter frame may have a 29th byte", and "an action above 1 is refused as 2"
+  action-form : getD bs 0 0 ≡ 4 → length bs ≡ 29 → getD bs 28 0 ≤ 1 → HasForm bs
   -- "05 row, 35 + n bytes", "n (0 to 8)"
   row-form : (n : ℕ) → getD bs 0 0 ≡ 5 → getD bs 34 0 ≡ n → n ≤ 8 → length bs ≡ 35 + n → HasForm bs
 

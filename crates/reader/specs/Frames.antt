@@ -10,7 +10,7 @@ use Rattle.frames.specs.Kinds.{FrameName, ofRow, Value, describe, frameNames}
 pub data Frame : Type 0 where
   -- of this kind, and what it says
   aFrame : (k : FrameName) → Value k → Frame
-  -- "unknown kind, length not the kind's, n above 8"
+  -- "unknown kind, length not the kind's, n above 8", "an action above 1"
   noFrame : Frame
 
 abbrev pub aRow : Row → Frame

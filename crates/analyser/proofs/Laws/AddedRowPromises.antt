@@ -16,7 +16,7 @@ use Rattle.reader.proofs.Laws.Wellformed.{accepted-wellformed}
 use Rattle.reader.proofs.Laws.Texts.{accepted-text-extended}
 use Rattle.verdicts.proofs.Laws.Extended.{old-rows-keep}
 use Rattle.kinds.specs.Entries.{entry, entries}
-use Rattle.kinds.specs.Extended.{MayChange, OfOldRows}
+use Rattle.kinds.specs.Extended.{MayChange, OfOldThings}
 use Rattle.kinds.proofs.Laws.Entries.{entries-exact}
 use Rattle.kinds.proofs.Laws.Extended.{anomalies-stand}
 use Rattle.listing.specs.Bytes.{bytes}
@@ -57,7 +57,7 @@ module _ (text longer : List ℕ) (t : Table) (added : List Row) (e : parse text
   inside : (i : ℕ) → i < length (t .rows) → i < length (extended added t .rows)
   inside i h = omega (arith, length-append (t .rows) added)
 
-  entry-kept : (i kind j : ℕ) → OfOldRows t i j → (MayChange kind → ⊥) → BothList text longer i kind j
+  entry-kept : (i kind j : ℕ) → OfOldThings t i kind j → (MayChange kind → ⊥) → BothList text longer i kind j
   entry-kept i kind j old stays out lent n m p q =
       let w = accepted-wellformed text t e in
       let v = accepted-wellformed longer (extended added t) f in
@@ -107,7 +107,7 @@ added-rows text more added t u e run f =
     subst⁻¹ (AnswersStand text more added t) table
     (record {
       table = refl;
-      dead-mark = λ i h. entry-kept text (text ++ more) t added e g i 20 255 (h, inr refl) dead-stays;
+      dead-mark = λ i h. entry-kept text (text ++ more) t added e g i 20 255 (inl (h, inr refl)) dead-stays;
       witness = witness-kept text (text ++ more) t added e g;
       winner = winner-kept text (text ++ more) t added e g;
       named = λ k h a b p i l s w. winner-named-newly text (text ++ more) t added e g k a b p i w h l s;

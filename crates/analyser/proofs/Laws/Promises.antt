@@ -28,9 +28,10 @@ use Rattle.search.specs.Search.{SearchResult, found, none}
 use Rattle.search.specs.Least.{_≤ₚ_}
 use Rattle.verdicts.specs.Verdicts.{verdictOn}
 use Rattle.verdicts.proofs.Laws.Verdicts.{verdicts}
-use Rattle.kinds.specs.Meanings.{InternalLoop, OutOfPlace, NonEnforceable, Inadequate, Shadowing, Redundancy, Exception, Correlation, Inclusion, Affinity, Contradiction, Superfluous, Skewed, Filtered, LayerTwo, Asymmetric, Cyclic, Monitorable, AlternativePath}
+use Rattle.kinds.specs.Meanings.{InternalLoop, OutOfPlace, NonEnforceable, Inadequate, Shadowing, Redundancy, Exception, Correlation, Inclusion, Affinity, Contradiction, Superfluous, Skewed, Filtered, LayerTwo, Asymmetric, Cyclic, Monitorable, AlternativePath, FilterShadowing, FilterRedundancy}
 use Rattle.kinds.specs.Entries.{entry, entries}
-use Rattle.kinds.proofs.Laws.Entries.{kind-number, entries-exact}
+use Rattle.kinds.proofs.Laws.Blocks.{anomaly-within}
+use Rattle.kinds.proofs.Laws.Entries.{entries-exact}
 use Rattle.kinds.proofs.Laws.Ascending.{entries-ascend}
 use Rattle.kinds.proofs.Laws.Few.{entries-few}
 use Rattle.listing.specs.Bytes.{bytes}
@@ -72,6 +73,7 @@ reads =
       lines = noLine-decides;
       frames = frame-said;
       kind-bytes = refl;
+      actions = (refl, refl);
       box = refl;
       first-fault = refused-exactly;
       faultless = λ text t h. accepted-faultless text t (accepted-exactly text t .1 h);
@@ -116,6 +118,10 @@ module _ (t : Table) where
       → ((i < length (t .rows)) × ((j < length (t .rows)) × P i j)) ↔ ((i < length (t .rows)) × (j < length (t .rows)) × P i j)
   of-two P i j = (λ h. (h .0, h .1 .0, h .1 .1), λ h. (h .0, (h .1, h .2)))
 
+  of-two-filters : (P : ℕ → ℕ → Type 0) (k m : ℕ)
+      → ((k < length (t .filters)) × ((m < length (t .filters)) × P k m)) ↔ ((k < length (t .filters)) × (m < length (t .filters)) × P k m)
+  of-two-filters P k m = (λ h. (h .0, h .1 .0, h .1 .1), λ h. (h .0, (h .1, h .2)))
+
   pub kind-numbers : KindNumbers t
   kind-numbers =
       record {
@@ -139,7 +145,12 @@ module _ (t : Table) where
         monitorable = of-two (Monitorable t);
         alternative-path = of-one (AlternativePath t);
         dead = of-one (Dead t);
-        no-other = kind-number t;
+        filter-shadowing = of-two-filters (FilterShadowing t);
+        filter-redundancy = of-two-filters (FilterRedundancy t);
+        no-other = λ i kind j h. elim (anomaly-within t i j kind h) [
+          | inl r ↦ (omega (arith, r .from), omega (arith, r .to))
+          | inr f ↦ (omega (arith, f .from), omega (arith, f .to))
+        ];
       }
 
 pub list-promise : (text : List ℕ) (t : Table) → parse text ≡ returned t → ListPromise text t

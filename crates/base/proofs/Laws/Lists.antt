@@ -1,12 +1,12 @@
 -- Laws of a list that is given by what stands at each place: its length, what stands at a place, that it goes by its places
 -- alone, one place more, and that a list is such a list of its own elements. Laws of what stands at a place: that below the
 -- length it does not go by the default, of a thing that is repeated, after a store at the place that follows those filled, and after a run
--- of stores, outside the run and in it. Two runs of stores, one after the other, and the length of what they are made to. A map, and the first of a
+-- of stores, outside the run, in it, and what holds at every place. Two runs of stores, one after the other, and the length of what they are made to. A map, and the first of a
 -- list, place by place. A list of no length.
 -- Assumes nothing.
 use mathlib.Core.Path.{_≡_, refl, sym, ap, subst, _∙_}
 use mathlib.Core.List.{List, [], _∷_, _++_, map}
-use Prim.Native.Nat.{ℕ, zero, suc, _+_, _≤_, _<_}
+use Prim.Native.Nat.{ℕ, zero, suc, _+_, _-_, _≤_, _<_}
 use native.Mathlib.Nat.{add-zero}
 use native.Mathlib.Numerals.{add-one}
 use native.Mathlib.Decide.{decLt}
@@ -124,6 +124,20 @@ module _ {A : Type 0} where
   getD-sets-inside l i (a ∷ vs) (suc c) d h b =
       let e : i + suc c ≡ suc i + c = omega arith in
       rw e (getD-sets-inside (set l i a) (suc i) vs c d (omega (arith, length-set l i a)) (omega arith))
+
+  -- Where the list has a property at every place, and what is stored in it has it too, so has the list then.
+  pub sets-keep : (P : A → Type 0) (d : A) (l : List A) (i : ℕ) (vs : List A) → i + length vs ≤ length l → ((k : ℕ) → P (getD l k d))
+      → ((k : ℕ) → k < length vs → P (getD vs k d)) → (k : ℕ) → P (getD (sets l i vs) k d)
+  sets-keep P d l i vs room old new k =
+      elim (decLt k i) [
+        | yes b ↦ rw (getD-sets-outside l i vs k d (λ c f e. omega arith)) (old k)
+        | no b ↦ elim (decLt k (i + length vs)) [
+          | yes f ↦
+              let e : k ≡ i + (k - i) = omega arith in
+              subst (λ (x : ℕ). P (getD (sets l i vs) x d)) (sym e) (rw (getD-sets-inside l i vs (k - i) d room (omega arith)) (new (k - i) (omega arith)))
+          | no f ↦ rw (getD-sets-outside l i vs k d (λ c g e. omega arith)) (old k)
+        ]
+      ]
 
 module _ {A B : Type 0} where
   map-from : (g : A → B) (f : ℕ → A) (i n : ℕ) → map g (tabulateFrom f i n) ≡ tabulateFrom (λ k. g (f k)) i n

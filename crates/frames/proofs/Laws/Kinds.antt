@@ -1,13 +1,13 @@
 -- Laws of all kinds of frames:
 --   InRange, lawful: each kind owes what Lawful says, of values whose numbers are in range
 -- Assumes nothing.
-use Rattle.policy.specs.Wellformed.{CoefficientsRule, Fits, widths}
+use Rattle.policy.specs.Wellformed.{CoefficientsRule, widths}
 use Rattle.frames.specs.Kinds.{FrameName, ofEntity, ofCap, ofFloor, ofFilter, ofRow, Value, describe}
 use Rattle.frames.proofs.Laws.Growing.{Lawful}
 use Rattle.frames.proofs.Laws.Entities.{entity-lawful}
 use Rattle.frames.proofs.Laws.Caps.{cap-lawful}
 use Rattle.frames.proofs.Laws.Floors.{floor-lawful}
-use Rattle.frames.proofs.Laws.Filters.{filter-lawful}
+use Rattle.frames.proofs.Laws.Filters.{FilterInRange, filter-lawful}
 use Rattle.frames.proofs.Laws.Rows.{RowInRange, row-lawful}
 
 -- What the numbers of a value keep because they are bytes of a line.
@@ -15,7 +15,7 @@ abbrev pub InRange : (k : FrameName) → Value k → Type 0
 InRange ofEntity = λ e. Unit {0}
 InRange ofCap = λ c. CoefficientsRule (c .coefficients)
 InRange ofFloor = CoefficientsRule
-InRange ofFilter = λ f. Fits widths (f .selector)
+InRange ofFilter = FilterInRange
 InRange ofRow = RowInRange widths
 
 pub lawful : (k : FrameName) → Lawful (InRange k) (describe k)

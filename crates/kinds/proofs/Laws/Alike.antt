@@ -4,6 +4,7 @@ use Prim.Native.Nat.{ℕ, zero, suc, _<_}
 use mathlib.Core.Path.{_≡_, refl, ap, _∙_}
 use mathlib.Core.Bool.{Bool, true, false, not, _&&_}
 use mathlib.Core.List.{List, [], _∷_, map}
+use native.Mathlib.Omega.{arith}
 use lib.Dec.{eqb, ltb}
 use Rattle.policy.specs.Model.{Filter, Row, Selector}
 use Rattle.base.specs.Lists.{among}
@@ -12,9 +13,9 @@ use Rattle.relations.specs.Selectors.{inhabited, meet}
 use Rattle.kinds.specs.Views.{Placed}
 use Rattle.base.proofs.Laws.Members.{some-alike}
 use Rattle.base.proofs.Laws.Each.{_▹_}
-use Rattle.kinds.specs.Tests.{internalLoop, outOfPlace, nonEnforceable, inadequate, rides, superfluous, filters, filtered, layerTwo, answers, asymmetric, cyclic, goesOn, chains, alternativePath, pairOf}
+use Rattle.kinds.specs.Tests.{internalLoop, outOfPlace, nonEnforceable, inadequate, rides, superfluous, filters, excepts, excepted, filteredBy, filtered, layerTwo, answers, asymmetric, cyclic, goesOn, chains, alternativePath, pairOf}
 use Rattle.kinds.specs.Seen.{Seen, pairIn}
-use Rattle.kinds.specs.Kinds.{Kind, noKind, alone, paired, kinds, ofOne, rowTests}
+use Rattle.kinds.specs.Kinds.{Kind, noKind, alone, paired, ofFilters, kinds, ofOne, rowTests}
 
 module _ (f g : ℕ → Placed) (rows i : ℕ) (hi : i < rows) (h : (j : ℕ) → j < rows → f j ≡ g j) where
   superfluous-alike : superfluous f rows i ≡ superfluous g rows i
@@ -34,10 +35,16 @@ module _ (f g : ℕ → Row) (rows i : ℕ) (hi : i < rows) (h : (j : ℕ) → j
   asymmetric-alike =
       ap not (some-alike rows (λ j. answers (f j) (f i)) (λ j. answers (g j) (g i)) (λ j k. rw (h j k, h i hi)))
 
-filtered-alike : (f g : ℕ → Filter) (count : ℕ) → ((k : ℕ) → k < count → f k ≡ g k) → {r q : Row} → r ≡ q → filtered f count r ≡ filtered g count q
-unfolding filtered
-filtered-alike f g count h {r} {q} e =
-    some-alike count (λ k. filters r (f k)) (λ k. filters q (g k)) (λ k b. λ x. filters (e x) (h k b x))
+module _ (f g : ℕ → Filter) (count : ℕ) (h : (k : ℕ) → k < count → f k ≡ g k) {r q : Row} (e : r ≡ q) where
+  excepted-alike : (k : ℕ) → k < count → excepted f k (f k .root) r ≡ excepted g k (g k .root) q
+  unfolding excepted
+  excepted-alike k b =
+      some-alike k (λ j. excepts r (f k .root) (f j)) (λ j. excepts q (g k .root) (g j)) (λ j d. λ x. excepts (e x) (h k b x .root) (h j (omega arith) x))
+
+  filtered-alike : filtered f count r ≡ filtered g count q
+  unfolding filtered filteredBy
+  filtered-alike =
+      some-alike count (λ k. filteredBy f k r) (λ k. filteredBy g k q) (λ k b. λ x. filters (e x) (h k b x) && not (excepted-alike k b x))
 
 module _ (from from' to to' : ℕ → ℕ) (selector selector' : ℕ → Selector) (rows : ℕ)
     (hf : (j : ℕ) → j < rows → from j ≡ from' j)
@@ -91,12 +98,14 @@ Alones P [] = Unit {0}
 Alones P (noKind ∷ l) = Alones P l
 Alones P (alone Q b ∷ l) = P b × Alones P l
 Alones P (paired Q b ∷ l) = Alones P l
+Alones P (ofFilters Q b ∷ l) = Alones P l
 
 alones-map : (s u : Seen) (i : ℕ) (l : List Kind) → Alones (λ b. b s i ≡ b u i) l → map (ofOne s i) l ≡ map (ofOne u i) l
 alones-map s u i [] a = refl
 alones-map s u i (noKind ∷ l) a = ap (λ (m : List Bool). false ∷ m) (alones-map s u i l a)
 alones-map s u i (alone Q b ∷ l) a = λ x. a .0 x ∷ alones-map s u i l (a .1) x
 alones-map s u i (paired Q b ∷ l) a = ap (λ (m : List Bool). false ∷ m) (alones-map s u i l a)
+alones-map s u i (ofFilters Q b ∷ l) a = ap (λ (m : List Bool). false ∷ m) (alones-map s u i l a)
 
 module _ {s u : Seen} (a : Alike s u) where
   pub pair-alike : (i j : ℕ) → i < s .rows → j < s .rows → pairIn s i j ≡ pairIn u i j

@@ -1,25 +1,23 @@
 -- The entries of a well-formed table are exactly its anomalies:
 --   gather-of, gather-next, gather-end, gather-same: lists one after another
---   kind-number: an anomaly's kind is one of the twenty
---   listed-of, entries-rows: what an entry of the list is, and of which rows
+--   listed-of, block-of, entries-blocks: what an entry of the list is, one of a block, and which blocks there are
 --   entries-exact: no entry more, none less
 -- Assumes nothing.
 use Prim.Native.Nat.{ℕ, zero, suc, _+_, _≤_, _<_}
 use mathlib.Core.Path.{_≡_, refl, sym, ap, subst}
 use mathlib.Core.Bool.{Bool, true, false}
-use mathlib.Core.Logic.{_⊎_, _↔_, inl, inr}
+use mathlib.Core.Logic.{_↔_, inl, inr}
 use mathlib.Core.List.{List, [], _∷_, _++_, List·Memᴰ, List·Memᴰ·head, List·Memᴰ·not-nil, List·Memᴰ·append-cases, Memᴰ·append-left, Memᴰ·append-right, List·Memᴰ·eq-of-singleton}
 use native.Mathlib.Omega.{arith}
 use lib.Dec.{eqb}
-use lib.ListN.{length, getD}
 use Rattle.base.specs.Truths.{pick}
 use Rattle.policy.specs.Model.{Table}
 use Rattle.policy.specs.Wellformed.{Wellformed}
 use Rattle.base.proofs.Laws.Decides.{decides-holds, decides-eqb, decided}
-use Rattle.kinds.specs.Meanings.{IsRow}
-use Rattle.kinds.specs.Kinds.{Kind, noKind, alone, paired, kindCount, numbered, kindAt, noSecond, Says, Anomaly, anomaly}
-use Rattle.kinds.specs.Entries.{Entry, entry, gather, listed, ofKind, ofRow, entries}
+use Rattle.kinds.specs.Kinds.{noSecond, Anomaly, anomaly}
+use Rattle.kinds.specs.Entries.{Entry, entry, gather, listed, Block, rowBlock, filterBlock, ofKind, ofThing, ofBlock, entries}
 use Rattle.kinds.proofs.Laws.Anomalies.{anomaly-decides}
+use Rattle.kinds.proofs.Laws.Blocks.{Within, anomaly-within}
 
 -- ---- lists one after another
 
@@ -55,27 +53,6 @@ gather-same f g zero k h = refl
 gather-same f g (suc n) k h =
     rw (h k (omega arith) (omega arith)) (ap (λ (l : List Entry). g k ++ l) (gather-same f g n (suc k) (λ x a b. h x (omega arith) (omega arith))))
 
--- ---- what an anomaly's numbers are
-
--- A number at which a kind says something is that of a kind.
-small : (t : Table) (i j : ℕ) (l : List Kind) (k : ℕ) → Says t (getD l k noKind) i j → k < length l
-small t i j [] k h = absurd h
-small t i j (x ∷ l) zero h = omega arith
-small t i j (x ∷ l) (suc k) h = let r = small t i j l k h in omega arith
-
-not-0 : (t : Table) (i kind j : ℕ) → Anomaly t i kind j → 0 < kind
-not-0 t i zero j h = absurd (h .1)
-not-0 t i (suc kind) j h = omega arith
-
-pub kind-number : (t : Table) (i kind j : ℕ) → Anomaly t i kind j → (0 < kind) × (kind ≤ kindCount)
-kind-number t i kind j h = let b = small t i j numbered kind (h .1) in (not-0 t i kind j h, omega arith)
-
--- The second number is a row's, or FF.
-second : (t : Table) (i j : ℕ) (k : Kind) → Says t k i j → IsRow t j ⊎ (j ≡ noSecond)
-second t i j noKind h = absurd h
-second t i j (alone P b) h = inr (h .0)
-second t i j (paired P b) h = inl (h .0)
-
 module _ (t : Table) where
   -- ---- the entries
 
@@ -86,9 +63,30 @@ module _ (t : Table) where
       go true q n = (List·Memᴰ·eq-of-singleton n, q)
       go false q n = absurd (List·Memᴰ·not-nil n)
 
-  pub entries-rows : entries t ≡ gather (length (t .rows)) 0 (ofRow t)
+  pub entries-blocks : entries t ≡ ofBlock t (rowBlock t) ++ ofBlock t (filterBlock t)
   unfolding entries
-  entries-rows = refl
+  entries-blocks = refl
+
+  module _ (b : Block) (e : Entry) where
+    -- It is listed of a thing, a kind of the block and a second number,
+    pub block-of : List·Memᴰ e (ofBlock t b) → (i : ℕ) × (kind : ℕ) × (j : ℕ) × (b .kind ≤ kind) × (kind < b .kind + b .kinds) × List·Memᴰ e (listed t i kind j)
+    block-of m =
+        let r = gather-of e (ofThing t b) (b .things) 0 m in
+        let k = gather-of e (ofKind t (b .things) (r .0)) (b .kinds) (b .kind) (r .3) in
+        elim (List·Memᴰ·append-cases (gather (b .things) 0 (λ s. listed t (r .0) (k .0) s)) (k .3)) [
+          | inl p ↦ let s = gather-of e (λ x. listed t (r .0) (k .0) x) (b .things) 0 p in (r .0, k .0, s .0, k .1, k .2, s .3)
+          | inr a ↦ (r .0, k .0, noSecond, k .1, k .2, a)
+        ]
+
+    -- and what is listed so is in the block.
+    block-in : (i kind j : ℕ) → Within b i kind j → List·Memᴰ e (listed t i kind j) → List·Memᴰ e (ofBlock t b)
+    block-in i kind j h m =
+        gather-in e (ofThing t b) (b .things) 0 i (omega arith) (omega (arith, h .thing))
+        (gather-in e (ofKind t (b .things) i) (b .kinds) (b .kind) kind (h .from) (h .to)
+        (elim (h .second) [
+          | inl p ↦ Memᴰ·append-left (listed t i kind noSecond) (gather-in e (λ s. listed t i kind s) (b .things) 0 j (omega arith) (omega (arith, p)) m)
+          | inr a ↦ Memᴰ·append-right (gather (b .things) 0 (λ s. listed t i kind s)) (subst (λ (x : ℕ). List·Memᴰ e (listed t i kind x)) a m)
+        ]))
 
   module _ (w : Wellformed t) (i kind j : ℕ) where
     listed-in : Anomaly t i kind j → List·Memᴰ (entry i kind j) (listed t i kind j)
@@ -96,27 +94,21 @@ module _ (t : Table) where
 
     anomaly-at : (i' kind' j' : ℕ) → (entry i kind j ≡ entry i' kind' j') × (anomaly t i' kind' j' ≡ true) → Anomaly t i kind j
     anomaly-at i' kind' j' h =
-        subst (λ (e : Entry). Anomaly t (e .row) (e .kind) (e .second)) (sym (h .0)) (anomaly-decides t w i' j' kind' .yes (h .1))
+        subst (λ (e : Entry). Anomaly t (e .first) (e .kind) (e .second)) (sym (h .0)) (anomaly-decides t w i' j' kind' .yes (h .1))
 
     -- "the list is the one that they define, no entry more, none less"
     pub entries-exact : List·Memᴰ (entry i kind j) (entries t) ↔ Anomaly t i kind j
     unfolding entries
     entries-exact =
-        let e = entry i kind j in
-        let n = length (t .rows) in (
-          λ m.
-              let r = gather-of e (ofRow t) n 0 m in
-              let k = gather-of e (ofKind t (r .0)) kindCount 1 (r .3) in
-              elim (List·Memᴰ·append-cases (gather n 0 (λ s. listed t (r .0) (k .0) s)) (k .3)) [
-                | inl p ↦ let s = gather-of e (λ x. listed t (r .0) (k .0) x) n 0 p in anomaly-at (r .0) (k .0) (s .0) (listed-of (r .0) (k .0) (s .0) e (s .3))
-                | inr a ↦ anomaly-at (r .0) (k .0) noSecond (listed-of (r .0) (k .0) noSecond e a)
-              ],
-          λ h.
-              let b = kind-number t i kind j h in
-              gather-in e (ofRow t) n 0 i (omega arith) (omega (arith, h .0))
-              (gather-in e (ofKind t i) kindCount 1 kind (omega arith) (omega arith)
-              (elim (second t i j (kindAt kind) (h .1)) [
-                | inl p ↦ Memᴰ·append-left (listed t i kind noSecond) (gather-in e (λ s. listed t i kind s) n 0 j (omega arith) (omega (arith, p)) (listed-in h))
-                | inr a ↦ Memᴰ·append-right (gather n 0 (λ s. listed t i kind s)) (subst (λ (x : ℕ). List·Memᴰ e (listed t i kind x)) a (listed-in h))
-              ])),
+        let e = entry i kind j in (
+          λ m. elim (List·Memᴰ·append-cases (ofBlock t (rowBlock t)) m) [ inl r ↦ found (rowBlock t) r | inr f ↦ found (filterBlock t) f ],
+          λ h. elim (anomaly-within t i j kind h) [
+            | inl r ↦ Memᴰ·append-left (ofBlock t (filterBlock t)) (block-in (rowBlock t) e i kind j r (listed-in h))
+            | inr f ↦ Memᴰ·append-right (ofBlock t (rowBlock t)) (block-in (filterBlock t) e i kind j f (listed-in h))
+          ],
         )
+      where
+        found : (b : Block) → List·Memᴰ (entry i kind j) (ofBlock t b) → Anomaly t i kind j
+        found b m =
+            let s = block-of b (entry i kind j) m in
+            anomaly-at (s .0) (s .1) (s .2) (listed-of (s .0) (s .1) (s .2) (entry i kind j) (s .5))

@@ -1,6 +1,6 @@
--- At most 12,800 entries: of each row at most three with each other row, and eleven alone, 63 · 3 + 11.
+-- At most 13,792 entries: of each row at most three with each other row, and eleven alone, 63 · 3 + 11; of each filter at most one with each other.
 -- Assumes nothing.
-use Prim.Native.Nat.{ℕ, suc, _+_, _-_, _*_, _≤_}
+use Prim.Native.Nat.{ℕ, suc, _+_, _-_, _*_, _≤_, _<_}
 use mathlib.Core.Path.{_≡_, refl, sym, ap, _∙_}
 use mathlib.Core.Bool.{Bool, true, false}
 use mathlib.Core.Logic.{inl, inr}
@@ -10,8 +10,8 @@ use native.Mathlib.Omega.{arith}
 use lib.Dec.{ltb}
 use lib.ListN.{length, length-append}
 use Rattle.base.specs.Truths.{pick, Decides, bit}
-use Rattle.policy.specs.Limits.{mostRows}
-use Rattle.policy.specs.Model.{Table, rowAt, parentOf}
+use Rattle.policy.specs.Limits.{mostFilters, mostRows}
+use Rattle.policy.specs.Model.{Table, filterAt, rowAt, parentOf}
 use Rattle.policy.specs.Wellformed.{Wellformed}
 use Rattle.relations.specs.Technologies.{layerOf}
 use Rattle.base.proofs.Laws.Decides.{decides-eqb, decides-ltb, decides-holds, decides-fails}
@@ -19,18 +19,23 @@ use Rattle.relations.proofs.Laws.Entities.{above-antisym}
 use Rattle.relations.proofs.Laws.Selectors.{contains-antisym}
 use Rattle.relations.proofs.Laws.Tables.{table-tree}
 use Rattle.base.proofs.Laws.Passing.{bit-le}
-use Rattle.kinds.specs.Meanings.{IsRow, EarlierInGroup, Encloses, SameTraffic, Contradiction}
-use Rattle.kinds.specs.Tests.{pairAt, shadowing, redundancy, exception, correlation, inclusion, affinity, contradiction, skewed, monitorable}
+use Rattle.kinds.specs.Meanings.{IsRow, IsFilter, EarlierInGroup, Encloses, SameTraffic, Contradiction}
+use Rattle.kinds.specs.Tests.{pairAt, shadowing, redundancy, exception, correlation, inclusion, affinity, contradiction, skewed, monitorable, filterShadowing, filterRedundancy}
 use Rattle.kinds.specs.Seen.{Seen, seenOf}
-use Rattle.kinds.specs.Kinds.{Kind, noKind, alone, paired, kinds, kindCount, noSecond, anomaly, ofOne}
-use Rattle.kinds.specs.Entries.{Entry, entry, gather, sum, listed, ofKind, ofRow, entries, mostEntries}
+use Rattle.kinds.specs.Kinds.{Kind, noKind, alone, paired, ofFilters, kinds, rowKindCount, filterKindCount, noSecond, anomaly, ofOne}
+use Rattle.kinds.specs.Entries.{Entry, entry, gather, sum, listed, Block, rowBlock, filterBlock, ofKind, ofThing, ofBlock, entries, mostEntries}
 use Rattle.kinds.proofs.Laws.Pairs as pairs
-use Rattle.kinds.proofs.Laws.Splits.{anomaly-row}
-use Rattle.kinds.proofs.Laws.Sums.{gather-length, sum-add, sum-exchange, sum-le, sum-but, total, sum-list}
+use Rattle.kinds.proofs.Laws.Filters as filters
+use Rattle.kinds.proofs.Laws.Entries.{entries-blocks}
+use Rattle.kinds.proofs.Laws.Splits.{anomaly-row, anomaly-filter}
+use Rattle.kinds.proofs.Laws.Sums.{gather-length, sum-add, sum-exchange, sum-le, sum-but, sum-split, total, sum-list}
 
--- Of one row.
+-- Of one row, and of one filter.
 abbrev mostOfRow : ℕ
 mostOfRow = 3 * (mostRows - 1) + 11
+
+abbrev mostOfFilter : ℕ
+mostOfFilter = mostFilters - 1
 
 -- ---- tests that are counted
 
@@ -52,6 +57,7 @@ aloneCount [] = 0
 aloneCount (noKind ∷ l) = aloneCount l
 aloneCount (alone P b ∷ l) = suc (aloneCount l)
 aloneCount (paired P b ∷ l) = aloneCount l
+aloneCount (ofFilters P b ∷ l) = aloneCount l
 
 alone-most : (s : Seen) (i : ℕ) (l : List Kind) → total counted (map (ofOne s i) l) ≤ aloneCount l
 unfolding total aloneCount counted
@@ -59,6 +65,7 @@ alone-most s i [] = omega arith
 alone-most s i (noKind ∷ l) = let r = alone-most s i l in omega arith
 alone-most s i (alone P b ∷ l) = let r = alone-most s i l in omega (arith, counted-le (b s i))
 alone-most s i (paired P b ∷ l) = let r = alone-most s i l in omega arith
+alone-most s i (ofFilters P b ∷ l) = let r = alone-most s i l in omega arith
 
 -- One more that does not hold; one more, and where it holds nothing else does.
 none : (b : Bool) {P : Type 0} → Decides b P → (P → ⊥) → (n : ℕ) → n ≡ 0 → counted b + n ≡ 0
@@ -70,13 +77,43 @@ unfolding counted
 one true d n h l = let z = h (d .yes refl) in omega arith
 one false d n h l = omega arith
 
--- ---- of row i
+-- ---- of thing i of a block
 
-module _ (t : Table) (w : Wellformed t) (i : ℕ) (hi : IsRow t i) where
+module _ (t : Table) (i : ℕ) where
   -- 1 where the anomaly is there.
   abbrev found : ℕ → ℕ → ℕ
   found kind j = counted (anomaly t i kind j)
 
+  module _ (b : Block) where
+    kind-length : (kind : ℕ) → length (ofKind t (b .things) i kind) ≡ sum (b .things) 0 (found kind) + found kind noSecond
+    kind-length kind =
+        length-append (gather (b .things) 0 (λ j. listed t i kind j)) (listed t i kind noSecond)
+        ∙ (λ k. gather-length (λ j. listed t i kind j) (found kind) (λ j. pick-length _ (entry i kind j)) (b .things) 0 k
+        + pick-length (anomaly t i kind noSecond) (entry i kind noSecond) k)
+
+    -- They are listed kind by kind, and counted second number by second number.
+    pub thing-counted : length (ofThing t b i)
+        ≡ sum (b .things) 0 (λ j. sum (b .kinds) (b .kind) (λ kind. bit (anomaly t i kind j))) + sum (b .kinds) (b .kind) (λ kind. bit (anomaly t i kind noSecond))
+    unfolding counted
+    thing-counted =
+        let a = gather-length (ofKind t (b .things) i) _ kind-length (b .kinds) (b .kind) in
+        let c = sum-add (λ kind. sum (b .things) 0 (found kind)) (λ kind. found kind noSecond) (b .kinds) (b .kind) in
+        let d = sum-exchange found (b .things) 0 (b .kinds) (b .kind) in
+        omega arith
+
+    -- At most so many with each other thing, none with itself, and so many alone.
+    thing-few : (most own : ℕ) → i < b .things → ((j : ℕ) → j < b .things → sum (b .kinds) (b .kind) (λ kind. found kind j) ≤ most)
+        → sum (b .kinds) (b .kind) (λ kind. found kind i) ≡ 0 → sum (b .kinds) (b .kind) (λ kind. found kind noSecond) ≤ own
+        → length (ofThing t b i) + most ≤ b .things * most + own
+    unfolding counted
+    thing-few most own h each itself few =
+        let a = thing-counted in
+        let d = sum-but (λ j. sum (b .kinds) (b .kind) (λ kind. found kind j)) most i (b .things) 0 (omega arith) (omega arith) (λ j l m. each j (omega arith)) itself in
+        omega arith
+
+-- ---- of row i
+
+module _ (t : Table) (w : Wellformed t) (i : ℕ) (hi : IsRow t i) where
   -- The kinds of two rows: 5 to 11, and 13 and 18.
   abbrev seven : ℕ → ℕ
   seven j =
@@ -91,16 +128,17 @@ module _ (t : Table) (w : Wellformed t) (i : ℕ) (hi : IsRow t i) where
   is-row = decides-holds _ (decides-ltb i (length (t .rows))) hi
 
   -- At a row: nine kinds.
-  of-two : (j : ℕ) → IsRow t j → sum kindCount 1 (λ kind. found kind j) ≡ seven j + two j
+  of-two : (j : ℕ) → IsRow t j → sum rowKindCount 1 (λ kind. found t i kind j) ≡ seven j + two j
   unfolding sum anomaly counted
   of-two j hj =
       let k = w .few-rows in
       rw (is-row, decides-holds _ (decides-ltb j (length (t .rows))) hj, decides-fails _ (decides-eqb j noSecond) (λ e. omega arith)) (omega arith)
 
   -- At FF: the kinds of one row.
-  of-one : sum kindCount 1 (λ kind. found kind noSecond) ≤ aloneCount kinds
+  of-one : sum rowKindCount 1 (λ kind. found t i kind noSecond) ≤ aloneCount kinds
   of-one =
-      let e = sum-list counted false (map (ofOne (seenOf t) i) kinds) 1 (λ kind. found kind noSecond) (λ m. rw (add-one m) (ap counted (anomaly-row t w i (suc m) hi))) in
+      let e = sum-list counted false (map (ofOne (seenOf t) i) kinds) 1 (λ kind. found t i kind noSecond) (λ m. rw (add-one m) (ap counted (anomaly-row t w i (suc m) hi))) in
+      let d = sum-split (λ kind. found t i kind noSecond) rowKindCount filterKindCount 1 in
       omega (arith, alone-most (seenOf t) i kinds)
 
   -- None at the row itself.
@@ -160,45 +198,65 @@ module _ (t : Table) (w : Wellformed t) (i : ℕ) (hi : IsRow t i) where
         (one _ aff _ (λ a. none _ con (λ x. one-null x (a .not-null) (a .other-not-null)) _ refl)
         (one _ con _ (λ x. refl) (omega arith)))))))
 
-    at-most-three : sum kindCount 1 (λ kind. found kind j) ≤ 3
+    at-most-three : sum rowKindCount 1 (λ kind. found t i kind j) ≤ 3
     at-most-three =
         rw (of-two j hj)
         (omega (arith, at-most-one, counted-le (skewed (pairAt t i j)), counted-le (monitorable (pairAt t i j))))
 
-  -- ---- the entries of row i
-
-  kind-length : (kind : ℕ) → length (ofKind t i kind) ≡ sum (length (t .rows)) 0 (found kind) + found kind noSecond
-  kind-length kind =
-      length-append (gather (length (t .rows)) 0 (λ j. listed t i kind j)) (listed t i kind noSecond)
-      ∙ (λ k. gather-length (λ j. listed t i kind j) (found kind) (λ j. pick-length _ (entry i kind j)) (length (t .rows)) 0 k
-      + pick-length (anomaly t i kind noSecond) (entry i kind noSecond) k)
-
-  -- They are listed kind by kind, and counted second number by second number.
-  pub row-counted : length (ofRow t i) ≡ sum (length (t .rows)) 0 (λ j. sum kindCount 1 (λ kind. bit (anomaly t i kind j))) + sum kindCount 1 (λ kind. bit (anomaly t i kind noSecond))
-  unfolding counted
-  row-counted =
-      let n = length (t .rows) in
-      let a = gather-length (ofKind t i) _ kind-length kindCount 1 in
-      let b = sum-add (λ kind. sum n 0 (found kind)) (λ kind. found kind noSecond) kindCount 1 in
-      let c = sum-exchange found n 0 kindCount 1 in
-      omega arith
-
-  row-length : length (ofRow t i) ≤ mostOfRow
+  row-length : length (ofThing t (rowBlock t) i) ≤ mostOfRow
   unfolding aloneCount counted
   row-length =
-      let n = length (t .rows) in
-      let a = row-counted in
-      let d = sum-but (λ j. sum kindCount 1 (λ kind. found kind j)) 3 i n 0 (omega arith) (omega arith) (λ j l m. at-most-three j (omega arith)) (omega (arith, of-two i hi, no-seven, no-two)) in
-      let e = of-one in
+      let a = thing-few t i (rowBlock t) 3 11 hi (λ j h. at-most-three j h) (omega (arith, of-two i hi, no-seven, no-two)) of-one in
       let f = w .few-rows in
       omega arith
 
--- "At most 12,800 entries"
+-- ---- of filter k
+
+module _ (t : Table) (w : Wellformed t) (k : ℕ) (hk : IsFilter t k) where
+  -- At a filter: two kinds, of which there is at most one, and none at the filter itself. At FF: none.
+  two-filters : (m : ℕ) → IsFilter t m
+      → sum filterKindCount (suc rowKindCount) (λ kind. found t k kind m)
+      ≡ counted (filterShadowing k m (filterAt t k) (filterAt t m)) + (counted (filterRedundancy (filterAt t k) (filterAt t m)) + 0)
+  unfolding sum anomaly
+  two-filters m hm =
+      rw (decides-holds _ (decides-ltb k (length (t .filters))) hk, decides-holds _ (decides-ltb m (length (t .filters))) hm)
+
+  filter-once : (m : ℕ) → IsFilter t m → sum filterKindCount (suc rowKindCount) (λ kind. found t k kind m) ≤ 1
+  filter-once m hm =
+      let red = filters.filterRedundancy-decides t w k m hm in
+      rw (two-filters m hm)
+      (one _ (filters.filterShadowing-decides t w k m hm) _ (λ s. none _ red (λ r. r .roots (s .root)) _ refl) (one _ red _ (λ r. refl) (omega arith)))
+
+  filter-itself : sum filterKindCount (suc rowKindCount) (λ kind. found t k kind k) ≡ 0
+  filter-itself =
+      rw (two-filters k hk)
+      (none _ (filters.filterShadowing-decides t w k k hk) (λ s. let h = s .earlier in omega arith) _
+      (none _ (filters.filterRedundancy-decides t w k k hk) (λ r. r .roots refl) _ refl))
+
+  filter-alone : sum filterKindCount (suc rowKindCount) (λ kind. found t k kind noSecond) ≤ 0
+  unfolding sum counted
+  filter-alone = rw (anomaly-filter t w k 21 tt, anomaly-filter t w k 22 tt) (omega arith)
+
+  filter-length : length (ofThing t (filterBlock t) k) ≤ mostOfFilter
+  filter-length =
+      let a = thing-few t k (filterBlock t) 1 0 hk filter-once filter-itself filter-alone in
+      let f = w .few-filters in
+      omega arith
+
+-- ---- all entries
+
+block-few : (t : Table) (b : Block) (most : ℕ) → ((i : ℕ) → i < b .things → length (ofThing t b i) ≤ most) → length (ofBlock t b) ≤ b .things * most
+block-few t b most h =
+    let a = gather-length (ofThing t b) (λ i. length (ofThing t b i)) (λ i. refl) (b .things) 0 in
+    let c = sum-le (λ i. length (ofThing t b i)) most (b .things) 0 (λ i l m. h i (omega arith)) in
+    omega arith
+
+-- "The list has at most 13,792 entries"
 pub entries-few : (t : Table) → Wellformed t → length (entries t) ≤ mostEntries
-unfolding entries
 entries-few t w =
-    let n = length (t .rows) in
-    let a = gather-length (ofRow t) (λ i. length (ofRow t i)) (λ i. refl) n 0 in
-    let b = sum-le (λ i. length (ofRow t i)) mostOfRow n 0 (λ i l m. row-length t w i (omega arith)) in
+    let e = ap length (entries-blocks t) ∙ length-append (ofBlock t (rowBlock t)) (ofBlock t (filterBlock t)) in
+    let a = block-few t (rowBlock t) mostOfRow (row-length t w) in
+    let b = block-few t (filterBlock t) mostOfFilter (filter-length t w) in
     let f = w .few-rows in
+    let g = w .few-filters in
     omega arith

@@ -4,27 +4,29 @@ use Prim.Native.Nat.{ℕ}
 use mathlib.Core.Path.{_≡_, refl}
 use mathlib.Core.Bool.{not, _&&_}
 use mathlib.Core.Logic.{inl, inr}
-use mathlib.Core.List.{List, [], _∷_}
+use mathlib.Core.List.{List, [], _∷_, List·Memᴰ}
 use native.Mathlib.Omega.{arith}
 use lib.Dec.{eqb}
-use lib.ListN.{length, getD}
-use Rattle.policy.specs.Model.{Table, noFilter, entityAt, rowAt}
+use lib.ListN.{length}
+use Rattle.policy.specs.Model.{Table, dropping, passing, entityAt, filterAt, rowAt}
 use Rattle.policy.specs.Wellformed.{Wellformed}
 use Rattle.base.specs.Truths.{Decides}
 use Rattle.relations.specs.Coefficients.{AtLeast, atLeast}
+use Rattle.relations.specs.Selectors.{Contains, Overlap}
 use Rattle.relations.specs.Groups.{Dead}
 use Rattle.base.proofs.Laws.Decides.{decides-true, decides-false, decides-as, decides-and, decides-or, decides-not, decides-eqb, decided}
 use Rattle.base.proofs.Laws.Members.{among-decides, same-decides, Some, some-decides}
 use Rattle.relations.proofs.Laws.Coefficients.{atLeast-decides}
-use Rattle.relations.proofs.Laws.Selectors.{contains-decides, sameSelector-decides}
+use Rattle.relations.proofs.Laws.Selectors.{contains-decides, overlaps-decides, sameSelector-decides}
 use Rattle.search.specs.Search.{SearchResult, found, none}
 use Rattle.verdicts.specs.Verdicts.{verdictOn, isNone}
 use Rattle.verdicts.proofs.Laws.Verdicts.{verdicts}
-use Rattle.kinds.specs.Meanings.{IsRow, sourceRoot, destinationRoot, InternalLoop, OutOfPlace, Lacks, NonEnforceable, Inadequate, Rides, Superfluous, Filtered, LayerTwo, Answers, Asymmetric, Cyclic}
+use Rattle.kinds.specs.Meanings.{IsRow, IsFilter, sourceRoot, destinationRoot, InternalLoop, OutOfPlace, Lacks, NonEnforceable, Inadequate, Rides, Superfluous, Excepts, Filtered, LayerTwo, Answers, Asymmetric, Cyclic}
 use Rattle.kinds.specs.Views.{placedAt}
-use Rattle.kinds.specs.Tests.{empty, internalLoop, outOfPlace, lacks, nonEnforceable, inadequate, rides, superfluous, filters, filtered, layerTwo, answers, asymmetric, cyclic, dead}
+use Rattle.kinds.specs.Tests.{empty, internalLoop, outOfPlace, lacks, nonEnforceable, inadequate, rides, superfluous, filters, excepts, excepted, filteredBy, filtered, layerTwo, answers, asymmetric, cyclic, dead}
 use Rattle.kinds.proofs.Laws.Lists.{inOrder-decides, twice-decides}
 use Rattle.kinds.proofs.Laws.Pairs.{selector-ordered}
+use Rattle.kinds.proofs.Laws.Filters.{filter-ordered}
 
 empty-decides : (l : List ℕ) → Decides (empty l) (l ≡ [])
 empty-decides [] = decides-true refl
@@ -84,13 +86,30 @@ module _ (t : Table) (w : Wellformed t) where
         | inr s ↦ absurd (n (j, r .row, (r, s)))
       ]
 
-  pub filtered-decides : (i : ℕ) → IsRow t i → Decides (filtered (λ k. getD (t .filters) k noFilter) (length (t .filters)) (rowAt t i)) (Filtered t i)
-  unfolding filtered filters
+  -- Some filter before filter m excepts packets of row i.
+  excepted-decides : (i m : ℕ) → IsRow t i → IsFilter t m
+      → Decides (excepted (filterAt t) m (filterAt t m .root) (rowAt t i)) ((k : ℕ) × Excepts t k m i)
+  unfolding excepted excepts
+  excepted-decides i m h there =
+      decides-as
+      (λ e. (e .0, record { earlier = e .1; passes = e .2 .0; root = e .2 .1 .0; overlap = e .2 .1 .1 }))
+      (λ e. (e .0, e .1 .earlier, (e .1 .passes, (e .1 .root, e .1 .overlap))))
+      (some-decides m (λ k. excepts (rowAt t i) (filterAt t m .root) (filterAt t k))
+      {P = λ k. (filterAt t k .action ≡ passing) × ((filterAt t k .root ≡ filterAt t m .root) × Overlap (filterAt t k .selector) (rowAt t i .selector))}
+      (λ k b. decides-and _ _ (decides-eqb _ _)
+      (decides-and _ _ (decides-eqb _ _) (overlaps-decides _ _ (filter-ordered t w k (omega arith)) (selector-ordered t w i h)))))
+
+  pub filtered-decides : (i : ℕ) → IsRow t i → Decides (filtered (filterAt t) (length (t .filters)) (rowAt t i)) (Filtered t i)
+  unfolding filtered filteredBy filters
   filtered-decides i h =
-      decides-as (λ e. record { filter = e .0; there = e .1; gateway = e .2 .0; contains = e .2 .1 })
-      (λ e. (e .filter, e .there, (e .gateway, e .contains)))
-      (some-decides (length (t .filters)) (λ k. filters (rowAt t i) (getD (t .filters) k noFilter))
-      (λ k b. decides-and _ _ (among-decides _ _) (contains-decides _ _ (selector-ordered t w i h))))
+      decides-as
+      (λ e. record { filter = e .0; there = e .1; drops = e .2 .0 .0; gateway = e .2 .0 .1 .0; contains = e .2 .0 .1 .1; not-excepted = λ k x. e .2 .1 (k, x) })
+      (λ e. (e .filter, e .there, ((e .drops, (e .gateway, e .contains)), λ x. e .not-excepted (x .0) (x .1))))
+      (some-decides (length (t .filters)) (λ k. filteredBy (filterAt t) k (rowAt t i))
+      {P = λ k. ((filterAt t k .action ≡ dropping) × (List·Memᴰ (filterAt t k .root) (rowAt t i .gateways) × Contains (filterAt t k .selector) (rowAt t i .selector))) × (((e : ℕ) × Excepts t e k i) → ⊥)}
+      (λ k b. decides-and _ _
+      (decides-and _ _ (decides-eqb _ _) (decides-and _ _ (among-decides _ _) (contains-decides _ _ (selector-ordered t w i h))))
+      (decides-not _ (excepted-decides i k h b))))
 
   pub layerTwo-decides : (i : ℕ) → Decides (layerTwo (rowAt t i)) (LayerTwo t i)
   unfolding layerTwo

@@ -1,4 +1,5 @@
--- Laws of sums: as many as lists one after another have, number by number, of two, exchanged, bounded; and of what stands at the places of a list.
+-- Laws of sums: as many as lists one after another have, number by number, in two parts, of two, exchanged, none, bounded; and of what stands at the
+-- places of a list.
 -- Assumes nothing.
 use Prim.Native.Nat.{ℕ, zero, suc, _+_, _-_, _*_, _≤_, _<_}
 use mathlib.Core.Path.{_≡_, refl, sym, ap, _∙_}
@@ -35,6 +36,27 @@ pub sum-end : (f : ℕ → ℕ) (last k : ℕ) → last ≤ k → sum (last - k)
 unfolding sum
 sum-end f last k h = let e : last - k ≡ 0 = omega arith in ap (λ (n : ℕ). sum n k f) e
 
+-- The first n of them and the m after these.
+pub sum-split : (f : ℕ → ℕ) (n m k : ℕ) → sum (n + m) k f ≡ sum n k f + sum m (k + n) f
+unfolding sum
+sum-split f zero m k =
+    let e : 0 + m ≡ m = omega arith in
+    let d : k ≡ k + 0 = omega arith in
+    let s : sum (0 + m) k f ≡ sum m (k + 0) f = λ i. sum (e i) (d i) f in
+    omega arith
+sum-split f (suc n) m k =
+    let h = sum-split f n m (suc k) in
+    let e : suc n + m ≡ suc (n + m) = omega arith in
+    let d : suc k + n ≡ k + suc n = omega arith in
+    let a = ap (λ (x : ℕ). sum x k f) e in
+    let b = ap (λ (x : ℕ). sum m x f) d in
+    omega arith
+
+-- One more.
+pub sum-more : (f : ℕ → ℕ) (n : ℕ) → sum (n + 1) 0 f ≡ sum n 0 f + f n
+unfolding sum
+sum-more f n = let e = sum-split f n 1 0 in let z : 0 + n ≡ n = omega arith in let a = ap f z in omega arith
+
 pub sum-add : (f g : ℕ → ℕ) (n k : ℕ) → sum n k (λ x. f x + g x) ≡ sum n k f + sum n k g
 unfolding sum
 sum-add f g zero k = refl
@@ -44,6 +66,10 @@ sum-zero : (n k : ℕ) → sum n k (λ x. 0) ≡ 0
 unfolding sum
 sum-zero zero k = refl
 sum-zero (suc n) k = let h = sum-zero n (suc k) in omega arith
+
+-- Where each is 0.
+pub sum-none : (f : ℕ → ℕ) (n k : ℕ) → ((x : ℕ) → k ≤ x → x < k + n → f x ≡ 0) → sum n k f ≡ 0
+sum-none f n k h = sum-same f (λ x. 0) n k h ∙ sum-zero n k
 
 pub sum-exchange : (f : ℕ → ℕ → ℕ) (m l n k : ℕ) → sum n k (λ x. sum m l (f x)) ≡ sum m l (λ y. sum n k (λ x. f x y))
 unfolding sum

@@ -15,7 +15,7 @@ noEntry = entry 0 0 0
 
 -- The bytes of an entry, and the entry of such bytes.
 abbrev pub threeOf : Entry → List ℕ
-threeOf e = e .row ∷ e .kind ∷ e .second ∷ []
+threeOf e = e .first ∷ e .kind ∷ e .second ∷ []
 
 abbrev entryOf : List ℕ → Entry
 entryOf l = entry (getD l 0 0) (getD l 1 0) (getD l 2 0)

@@ -18,7 +18,7 @@ pub bytes-none : bytes [] ≡ []
 unfolding bytes
 bytes-none = refl
 
-pub bytes-more : (e : Entry) (es : List Entry) → bytes (e ∷ es) ≡ e .row ∷ e .kind ∷ e .second ∷ bytes es
+pub bytes-more : (e : Entry) (es : List Entry) → bytes (e ∷ es) ≡ e .first ∷ e .kind ∷ e .second ∷ bytes es
 unfolding bytes
 bytes-more e es = refl
 

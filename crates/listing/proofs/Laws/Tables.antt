@@ -1,17 +1,18 @@
--- What the code finds from what a table lends is what the definitions say of the table: its rows, their roots, their kinds, their entries.
+-- What the code finds from what a table lends is what the definitions say of the table: its rows, their roots, their kinds and those of the filters, and
+-- how many entries they have.
 -- Assumes nothing.
-use Prim.Native.Nat.{ℕ, _<_}
+use Prim.Native.Nat.{ℕ, suc, _≤_, _<_}
 use mathlib.Core.Path.{_≡_, refl, sym, ap, subst, _∙_}
 use mathlib.Core.Bool.{Bool, false}
-use mathlib.Core.List.{List, _++_, map}
+use mathlib.Core.List.{List, map}
 use native.Mathlib.Omega.{arith}
 use lib.Count.{ones}
 use lib.ListN.{length, getD}
 use lib.Seq.{take-all}
 use Rattle.base.specs.Truths.{bit}
-use Rattle.base.proofs.Laws.Lists.{length-tabulate, getD-tabulate}
+use Rattle.base.proofs.Laws.Lists.{getD-tabulate}
 use Rattle.policy.specs.Limits.{technologies}
-use Rattle.policy.specs.Model.{Table, noFilter, entityAt, rowAt, parentOf}
+use Rattle.policy.specs.Model.{Table, noFilter, entityAt, filterAt, rowAt, parentOf}
 use Rattle.policy.specs.Views.{parentIn, rowIn, filterIn, coefficientsOf, tableOf, Held}
 use Rattle.policy.specs.Wellformed.{Wellformed}
 use Rattle.policy.specs.declared.table.Table.{Table as TableStruct}
@@ -25,31 +26,55 @@ use Rattle.verdicts.proofs.Laws.Tables.{lent-verdict}
 use Rattle.kinds.specs.Meanings.{IsRow, sourceRoot, destinationRoot}
 use Rattle.kinds.specs.Views.{fromIn, toIn, Ends, Rooted}
 use Rattle.kinds.specs.Seen.{Seen, seenOf, seenIn, pairIn}
-use Rattle.kinds.specs.Kinds.{kinds, kindCount, noSecond, anomaly, ofOne, ofTwo, rowTests, pairTests}
+use Rattle.kinds.specs.Kinds.{kinds, rowKindCount, filterKindCount, kindCount, noSecond, anomaly, ofOne, ofTwo, ofTwoFilters, rowTests, pairTests, filterTests}
 use Rattle.kinds.specs.declared.pair.Pair.{Pair}
-use Rattle.kinds.specs.Entries.{Entry, gather, sum, listed, ofKind, ofRow, entries}
+use Rattle.kinds.specs.Entries.{sum, rowBlock, filterBlock, ofThing, ofBlock}
 use Rattle.kinds.proofs.Laws.Placed.{rooted-from, rooted-to}
-use Rattle.kinds.proofs.Laws.Entries.{entries-rows, gather-same}
-use Rattle.kinds.proofs.Laws.Sums.{sum-same}
-use Rattle.kinds.proofs.Laws.Few.{row-counted}
-use Rattle.kinds.proofs.Laws.Splits.{anomaly-pair, anomaly-row}
+use Rattle.kinds.proofs.Laws.Sums.{gather-length, sum-same, sum-split, sum-none}
+use Rattle.kinds.proofs.Laws.Few.{thing-counted}
+use Rattle.kinds.proofs.Laws.Blocks.{row-kind, filter-kind}
+use Rattle.kinds.proofs.Laws.Splits.{anomaly-pair, anomaly-row, anomaly-filters, anomaly-filter, no-row, no-pair, no-filters}
 use Rattle.kinds.proofs.Laws.Alike.{Alike, pair-alike, row-alike}
 use Rattle.base.specs.Bits.{bitsOf, marked}
-use Rattle.listing.specs.Marks.{GoodRow, GoodRows, GoodAlone, pairMarks, markAt, rowCount, listedIf, pairsMarked, kindMarked, rowMarked}
+use Rattle.listing.specs.Marks.{GoodRow, GoodRows, GoodAlone, pairMarks, filterMarks, markAt, rowCount}
 use Rattle.base.proofs.Laws.Bits.{marked-bits}
 use Rattle.listing.proofs.Laws.Ones.{ones-kinds}
+
+-- The first twenty of twenty-two numbers, where the others have none, and the last two.
+first-kinds : (f g : ℕ → Bool) → ((kind : ℕ) → kind ≤ rowKindCount → f kind ≡ g kind) → ((kind : ℕ) → rowKindCount < kind → f kind ≡ false)
+    → sum kindCount 1 (λ kind. bit (f kind)) ≡ sum rowKindCount 1 (λ kind. bit (g kind))
+first-kinds f g same none =
+    let a = sum-split (λ kind. bit (f kind)) rowKindCount filterKindCount 1 in
+    let b = sum-same (λ kind. bit (f kind)) (λ kind. bit (g kind)) rowKindCount 1 (λ kind l m. ap bit (same kind (omega arith))) in
+    let c = sum-none (λ kind. bit (f kind)) filterKindCount (suc rowKindCount) (λ kind l m. ap bit (none kind (omega arith))) in
+    omega arith
+
+last-kinds : (f g : ℕ → Bool) → ((kind : ℕ) → rowKindCount < kind → f kind ≡ g kind) → ((kind : ℕ) → kind ≤ rowKindCount → f kind ≡ false)
+    → sum kindCount 1 (λ kind. bit (f kind)) ≡ sum filterKindCount (suc rowKindCount) (λ kind. bit (g kind))
+last-kinds f g same none =
+    let a = sum-split (λ kind. bit (f kind)) rowKindCount filterKindCount 1 in
+    let b = sum-same (λ kind. bit (f kind)) (λ kind. bit (g kind)) filterKindCount (suc rowKindCount) (λ kind l m. ap bit (same kind (omega arith))) in
+    let c = sum-none (λ kind. bit (f kind)) rowKindCount 1 (λ kind l m. ap bit (none kind (omega arith))) in
+    omega arith
 
 -- What the tests look at; the kinds of row i alone, and with row j.
 module _ (t : TableStruct) (roots : List ℕ) where
   abbrev seen : Seen
   seen =
-      seenIn (t .parents) (t .masks) (map coefficientsOf (t .caps)) (coefficientsOf (t .floor)) (t .filters) (t .«filter_roots») (t .heads) (t .bounds) roots (t .rows)
+      seenIn (t .parents) (t .masks) (map coefficientsOf (t .caps)) (coefficientsOf (t .floor)) (t .filters) (t .«filter_roots») (t .«filter_actions») (t .heads) (t .bounds) roots (t .rows)
 
   abbrev pub aloneAt : ℕ → ℕ
   aloneAt i = bitsOf (rowTests seen i)
 
   abbrev pub pairedAt : ℕ → ℕ → ℕ
   pairedAt i j = pairMarks (t .parents) (t .heads) (t .bounds) roots i j
+
+  -- they have none of the kinds of filters
+  pub alone-row-kinds : (i kind : ℕ) → rowKindCount < kind → marked (aloneAt i) kind ≡ false
+  alone-row-kinds i kind h = marked-bits (rowTests seen i) kind ∙ no-row seen i kind (filter-kind kind h)
+
+  pub paired-row-kinds : (i j kind : ℕ) → rowKindCount < kind → marked (pairedAt i j) kind ≡ false
+  paired-row-kinds i j kind h = marked-bits (pairTests (pairIn seen i j)) kind ∙ no-pair (pairIn seen i j) kind (filter-kind kind h)
 
 module _ (t : TableStruct) (z : Sized t) (held : Held t) (w : Wellformed (tableOf t)) where
   abbrev T : Table
@@ -135,8 +160,8 @@ module _ (t : TableStruct) (z : Sized t) (held : Held t) (w : Wellformed (tableO
           up = parents;
           caps = caps-same;
           floor = refl;
-          filters = sym (length-tabulate (filterIn (t .«filter_roots») (t .bounds)) (t .filters));
-          filter = λ k b. sym (getD-tabulate (filterIn (t .«filter_roots») (t .bounds)) (t .filters) k noFilter b);
+          filters = sym (count .filters);
+          filter = λ k b. sym (getD-tabulate (filterIn (t .«filter_roots») (t .«filter_actions») (t .bounds)) (t .filters) k noFilter b);
           rows = sym rows-counted;
           placed = λ i h x. record { row = row-same i h x; from = from-same i h x; to = to-same i h x };
           from-mask = λ i h. mask (fromIn roots i) (sourceRoot T i) (from-entity i h) (from-same i h);
@@ -144,45 +169,83 @@ module _ (t : TableStruct) (z : Sized t) (held : Held t) (w : Wellformed (tableO
           dead = λ i h. ap isNone (lent-verdict t z held i h);
         }
 
-    -- the entries that are marked are the table's, and as many as are marked
-    module _ (i : ℕ) (h : i < t .rows) (own : ℕ) (pairs : List ℕ) (o : own ≡ aloneAt t roots i)
-        (p : (j : ℕ) → j < t .rows → markAt pairs i j ≡ pairedAt t roots i j) where
-      own-listed : (kind : ℕ) → marked own kind ≡ anomaly T i kind noSecond
-      own-listed kind =
+    -- the anomalies that are marked are the table's, and as many as are marked
+    module _ (i : ℕ) (h : i < t .rows) where
+      pub own-listed : (own : ℕ) → own ≡ aloneAt t roots i → (kind : ℕ) → marked own kind ≡ anomaly T i kind noSecond
+      own-listed own o kind =
           ap (λ (n : ℕ). marked n kind) o ∙ marked-bits (rowTests (seen t roots) i) kind ∙ ap (λ (l : List Bool). getD l kind false) (row-alike alike i h)
           ∙ sym (anomaly-row T w i kind (is-row i h))
 
-      pair-listed : (kind j : ℕ) → j < t .rows → marked (markAt pairs i j) kind ≡ anomaly T i kind j
-      pair-listed kind j k =
-          ap (λ (n : ℕ). marked n kind) (p j k)
-          ∙ marked-bits (pairTests (pairIn (seen t roots) i j)) kind
+      pub pair-listed : (j : ℕ) → j < t .rows → (kind : ℕ) → kind ≤ rowKindCount → marked (pairedAt t roots i j) kind ≡ anomaly T i kind j
+      pair-listed j k kind b =
+          marked-bits (pairTests (pairIn (seen t roots) i j)) kind
           ∙ ap (λ (q : Pair). getD (pairTests q) kind false) (pair-alike alike i j h k)
-          ∙ sym (anomaly-pair T w i kind (is-row i h) j (is-row j k))
+          ∙ sym (anomaly-pair T w i kind j (is-row i h) (is-row j k) (row-kind kind b))
 
-      pub row-listed : rowMarked own pairs (t .rows) i ≡ ofRow T i
-      row-listed =
-          gather-same (kindMarked own pairs (t .rows) i) (ofKind T i) kindCount 1
-          (λ kind a b.
-          ap (λ (l : List Entry). l ++ listedIf (marked own kind) i kind noSecond) (with-rows kind)
-          ∙ ap (λ (x : Bool). gather (length (T .rows)) 0 (λ j. listed T i kind j) ++ listedIf x i kind noSecond) (own-listed kind))
-        where
-          with-rows : (kind : ℕ) → pairsMarked pairs (t .rows) i kind ≡ gather (length (T .rows)) 0 (λ j. listed T i kind j)
-          with-rows kind =
-              gather-same (λ j. listedIf (marked (markAt pairs i j) kind) i kind j) (λ j. listed T i kind j) (t .rows) 0
-              (λ j a b. ap (λ (x : Bool). listedIf x i kind j) (pair-listed kind j (omega arith)))
-              ∙ ap (λ (n : ℕ). gather n 0 (λ j. listed T i kind j)) (sym rows-counted)
-
-      pub row-count : rowCount own pairs (t .rows) i ≡ length (ofRow T i)
-      row-count =
-          let g : ℕ → ℕ = λ j. sum kindCount 1 (λ kind. bit (anomaly T i kind j)) in
-          let a = ones-kinds (map (ofOne (seen t roots) i) kinds) own (λ kind. anomaly T i kind noSecond) o own-listed in
+      pub row-count : (own : ℕ) (pairs : List ℕ) → own ≡ aloneAt t roots i → ((j : ℕ) → j < t .rows → markAt pairs i j ≡ pairedAt t roots i j)
+          → rowCount own pairs (t .rows) i ≡ length (ofThing T (rowBlock T) i)
+      row-count own pairs o p =
+          let g : ℕ → ℕ = λ j. sum rowKindCount 1 (λ kind. bit (anomaly T i kind j)) in
+          let a =
+          ones-kinds (map (ofOne (seen t roots) i) kinds) own (λ kind. anomaly T i kind noSecond) o (own-listed own o)
+          ∙ first-kinds (λ kind. anomaly T i kind noSecond) (λ kind. anomaly T i kind noSecond) (λ kind b. refl) (λ kind b. anomaly-filter T w i kind (filter-kind kind b)) in
           let b =
           sum-same (λ j. ones (markAt pairs i j)) g (t .rows) 0
-          (λ j l k. ones-kinds (map (ofTwo (pairIn (seen t roots) i j)) kinds) (markAt pairs i j) (λ kind. anomaly T i kind j) (p j (omega arith)) (λ kind. pair-listed kind j (omega arith))) in
-          let c = row-counted T w i (is-row i h) in
+          (λ j l k.
+          let q = pairTests (pairIn (seen t roots) i j) in
+          ap ones (p j (omega arith))
+          ∙ ones-kinds (map (ofTwo (pairIn (seen t roots) i j)) kinds) (pairedAt t roots i j) (λ kind. getD q kind false) refl (marked-bits q)
+          ∙ first-kinds (λ kind. getD q kind false) (λ kind. anomaly T i kind j)
+          (λ kind c. sym (marked-bits q kind) ∙ pair-listed j (omega arith) kind c)
+          (λ kind c. no-pair (pairIn (seen t roots) i j) kind (filter-kind kind c))) in
+          let c = thing-counted T i (rowBlock T) in
           let d = ap (λ (n : ℕ). sum n 0 g) rows-counted in
           omega arith
 
-  -- the entries, row by row
-  pub all-listed : entries T ≡ gather (t .rows) 0 (ofRow T)
-  all-listed = entries-rows T ∙ ap (λ (n : ℕ). gather n 0 (ofRow T)) rows-counted
+  -- ---- the filters
+
+  abbrev filterMark : ℕ → ℕ → ℕ
+  filterMark = filterMarks (t .«filter_roots») (t .«filter_actions») (t .bounds)
+
+  filters-counted : length (T .filters) ≡ t .filters
+  filters-counted = count .filters
+
+  filter-same : (k : ℕ) → k < t .filters → filterIn (t .«filter_roots») (t .«filter_actions») (t .bounds) k ≡ filterAt T k
+  filter-same k h = sym (getD-tabulate (filterIn (t .«filter_roots») (t .«filter_actions») (t .bounds)) (t .filters) k noFilter h)
+
+  abbrev lent : ℕ → ℕ → List Bool
+  lent k m =
+      filterTests k m (filterIn (t .«filter_roots») (t .«filter_actions») (t .bounds) k) (filterIn (t .«filter_roots») (t .«filter_actions») (t .bounds) m)
+
+  pub filter-listed : (k m kind : ℕ) → k < t .filters → m < t .filters → rowKindCount < kind → marked (filterMark k m) kind ≡ anomaly T k kind m
+  filter-listed k m kind h l b =
+      let e = filters-counted in
+      marked-bits (lent k m) kind
+      ∙ (λ x. getD (filterTests k m (filter-same k h x) (filter-same m l x)) kind false)
+      ∙ sym (anomaly-filters T w k kind m (omega arith) (omega arith) (filter-kind kind b))
+
+  -- at the kinds of rows they have none
+  pub filter-unlisted : (k m kind : ℕ) → kind ≤ rowKindCount → marked (filterMark k m) kind ≡ false
+  filter-unlisted k m kind b = marked-bits (lent k m) kind ∙ no-filters k m _ _ kind (row-kind kind b)
+
+  filter-count : (k : ℕ) → k < t .filters → sum (t .filters) 0 (λ m. ones (filterMark k m)) ≡ length (ofThing T (filterBlock T) k)
+  filter-count k h =
+      let g : ℕ → ℕ = λ m. sum filterKindCount (suc rowKindCount) (λ kind. bit (anomaly T k kind m)) in
+      let a =
+      sum-same (λ m. ones (filterMark k m)) g (t .filters) 0
+      (λ m l b.
+      ones-kinds (map (ofTwoFilters k m _ _) kinds) (filterMark k m) (λ kind. getD (lent k m) kind false) refl (marked-bits (lent k m))
+      ∙ last-kinds (λ kind. getD (lent k m) kind false) (λ kind. anomaly T k kind m)
+      (λ kind c. sym (marked-bits (lent k m) kind) ∙ filter-listed k m kind h (omega arith) c)
+      (λ kind c. no-filters k m _ _ kind (row-kind kind c))) in
+      let b = sum-none (λ kind. bit (anomaly T k kind noSecond)) filterKindCount (suc rowKindCount) (λ kind l m. ap bit (anomaly-filter T w k kind (filter-kind kind (omega arith)))) in
+      let c = thing-counted T k (filterBlock T) in
+      let d = ap (λ (n : ℕ). sum n 0 g) filters-counted in
+      omega arith
+
+  pub filters-count : sum (t .filters) 0 (λ k. sum (t .filters) 0 (λ m. ones (filterMark k m))) ≡ length (ofBlock T (filterBlock T))
+  filters-count =
+      let g : ℕ → ℕ = λ k. length (ofThing T (filterBlock T) k) in
+      sum-same (λ k. sum (t .filters) 0 (λ m. ones (filterMark k m))) g (t .filters) 0 (λ k l b. filter-count k (omega arith))
+      ∙ ap (λ (n : ℕ). sum n 0 g) (sym filters-counted)
+      ∙ sym (gather-length (ofThing T (filterBlock T)) g (λ k. refl) (length (T .filters)) 0)

@@ -1,13 +1,11 @@
--- `list` meets its contract: the rows before i are marked, and their entries counted; once all are, the entries that are marked are written if
--- there is room for them. Assumes nothing.
-use borrow.Author.Needs.{needs}
-use Prim.Native.Nat.{ℕ, _+_, _-_, _*_, _≤_, _<_}
-use mathlib.Core.Path.{_≡_}
-use mathlib.Core.List.{List}
+-- `list` meets its contract: the rows before i are marked, and their entries counted; once all are, and the filters, the entries that are marked are
+-- written if there is room for them, those of rows first. Assumes nothing.
+use Prim.Native.Nat.{ℕ, _+_, _-_, _≤_, _<_}
+use mathlib.Core.Path.{_≡_, ap, sym, subst}
+use mathlib.Core.List.{List, _++_}
 use native.Mathlib.Omega.{arith}
 use denote.Ref.{now}
-use lib.ListN.{length, set, length-replicate}
-use Rattle.policy.specs.Limits.{mostRows}
+use lib.ListN.{length, set}
 use Rattle.policy.specs.Views.{tableOf, Held}
 use Rattle.policy.specs.Wellformed.{Wellformed}
 use Rattle.policy.specs.declared.table.Table.{Table as TableStruct}
@@ -15,13 +13,14 @@ use Rattle.policy.proofs.Laws.Tables.{Sized, sized}
 use Rattle.relations.specs.Entities.{Parents}
 use Rattle.relations.proofs.Laws.Tables.{lent-parents}
 use Rattle.kinds.specs.Views.{Rooted}
-use Rattle.kinds.specs.Entries.{Entry, entries, mostEntries}
+use Rattle.kinds.specs.Entries.{Entry, rowBlock, filterBlock, ofBlock, entries, mostEntries}
+use Rattle.kinds.proofs.Laws.Entries.{entries-blocks}
 use Rattle.kinds.proofs.Laws.Few.{entries-few}
-use Rattle.listing.specs.Bytes.{entryBytes}
-use Rattle.listing.specs.Marks.{rowCount, allMarked}
-use Rattle.listing.proofs.Laws.Puts.{listing-short, listing-whole}
+use Rattle.listing.specs.Bytes.{Room, Put}
+use Rattle.listing.specs.Marks.{rowCount}
+use Rattle.listing.proofs.Laws.Puts.{put-then, put-long, room-first, room-second, listing-short, listing-whole}
 use Rattle.listing.proofs.Laws.Tables.{good-rows, ends, good-alone}
-use Rattle.listing.proofs.Laws.Kept.{Marking, marking-start, marking-few, marking-next, marking-same, marking-count}
+use Rattle.listing.proofs.Laws.Kept.{Marking, Marked, marking-start, marking-few, marking-next, marking-all}
 use Rattle.listing.proofs.list.Statement.{statement}
 use Rattle.listing.proofs.list.Tie as tie
 
@@ -59,24 +58,24 @@ module _ (c : tie.After-roots-of I μ) where
 starts : tie.Need-loop-holds I μ
 starts c =
     let a = s c in
-    (omega arith, marking-start (t a) (size a) (held a) (well a) _ (rooted c) _ _ (length-replicate {A = ℕ} mostRows 0) (length-replicate {A = ℕ} (mostRows * mostRows) 0))
+    (omega arith, marking-start (t a) (size a) (held a) (well a) _ (rooted c))
 
 row-asked : tie.Need-of-row-requires I μ
 row-asked c κs =
-    let k = c .before .before .before .before .before .before .before .before .before in
+    let k = c .before .before .before .before .before .before .before .before .before .before in
     let r = k .before .before in
     good-alone (t (s r)) (size (s r)) (held (s r)) (well (s r)) _ (rooted r) (k .before .loop .i) (k .loop-test .taken) (parents (s r))
 
 -- row i, and the kinds of it alone that were found
 module _ (c : tie.After-of-row I μ) where
   abbrev loop : tie.At-loop I μ
-  loop = c .before .before .before .before .before .before .before .before .before .before .before
+  loop = c .before .before .before .before .before .before .before .before .before .before .before .before
 
   abbrev r : tie.After-roots-of I μ
   r = loop .before
 
   h : loop .loop .i < t (s r) .rows
-  h = c .before .before .before .before .before .before .before .before .before .before .loop-test .taken
+  h = c .before .before .before .before .before .before .before .before .before .before .before .loop-test .taken
 
 pairs-asked : tie.Need-of-pairs-requires I μ
 pairs-asked c κs =
@@ -107,44 +106,82 @@ again c =
     let k = h (o p) in
     (omega arith, rw (c .count-row .ensures) (next p))
 
--- all rows are marked
-module _ (c : tie.After-loop I μ) where
+-- all rows are marked, and the filters
+module _ (c : tie.After-of-filters I μ) where
+  abbrev last : tie.At-loop I μ
+  last = c .before .before .before .before .before .before .before
+
   abbrev b : tie.Start I μ
-  b = s (c .before .before)
+  b = s (last .before)
 
   abbrev es : List Entry
   es = entries (tableOf (t b))
 
-  all : c .before .loop .i ≡ t b .rows
-  all = let k = c .loop-test .left in let m = c .before .loop .inv .0 in omega arith
+  all : last .loop .i ≡ t b .rows
+  all = let k = c .before .before .before .before .before .before .loop-test .left in let m = last .loop .inv .0 in omega arith
 
-  same : allMarked (c .before .loop .kept .own) (c .before .loop .kept .pairs) (t b .rows) ≡ es
-  same = marking-same (t b) (size b) (held b) (well b) _ (rooted (c .before .before)) (c .before .loop .inv .1) all
+  done : Marked (t b) (last .loop .kept .own) (c .of-filters .last .1 .1 .1 .1 .0) (last .loop .n + c .of-filters .result)
+  done = marking-all (t b) (size b) (held b) (well b) _ (rooted (last .before)) (last .loop .inv .1) all (c .of-filters .ensures)
 
-  counted : c .before .loop .n ≡ length es
-  counted = marking-count (t b) (size b) (held b) (well b) _ (rooted (c .before .before)) (c .before .loop .inv .1) all
+  most : last .loop .n + c .of-filters .result ≤ mostEntries
+  most = let n = done .count in let f = entries-few (tableOf (t b)) (well b) in omega arith
 
 short : tie.Need-returns I μ
 short c =
-    let n = counted (c .before) in
+    let n = done (c .before) .count in
     let k = c .if1 .taken in
     listing-short (es (c .before)) (now (b (c .before) .args .out)) (omega arith)
 
--- a buffer that is not too short has room
-room : (c : tie.Else1 I μ) → entryBytes * length (es (c .before)) ≤ length (now (b (c .before) .args .out))
-room c = let n = counted (c .before) in let k = c .if1 .left in omega arith
+-- a buffer that is not too short has room for both blocks
+module _ (c : tie.Else1 I μ) where
+  abbrev f : tie.After-of-filters I μ
+  f = c .before
 
-rows-asked : tie.Need-put-rows-requires I μ
+  abbrev rows : List Entry
+  rows = ofBlock (tableOf (t (b f))) (rowBlock (tableOf (t (b f))))
+
+  abbrev filters : List Entry
+  filters = ofBlock (tableOf (t (b f))) (filterBlock (tableOf (t (b f))))
+
+  both : es f ≡ rows ++ filters
+  both = entries-blocks (tableOf (t (b f)))
+
+  room : Room (length (now (b f .args .out))) 0 (rows ++ filters)
+  room = rw (← both) (let n = done f .count in let k = c .if1 .left in omega arith)
+
+rows-asked : tie.Need-put-block-requires I μ
 rows-asked c κs =
     let k = c .before .before .before .before in
-    let m = room k in
-    rw (same (k .before)) (omega arith, held (b (k .before)) .rows)
+    let few = held (b (f k)) .rows in
+    let m = room-first (length (now (b (f k) .args .out))) 0 (rows k) (filters k) (room k) in
+    (subst (Room (length (now (b (f k) .args .out))) 0) (sym (done (f k) .rows)) m, record { few = few; among = omega arith })
 
-whole : tie.Need-returns-2 I μ
+-- the rows' entries are written
+module _ (c : tie.After-put-block I μ) where
+  abbrev e : tie.Else1 I μ
+  e = c .before .before .before .before .before
+
+  put-rows : Put (now (b (f e) .args .out)) 0 (c .put-block .last .0) (c .put-block .result) (rows e)
+  put-rows = rw (done (f e) .rows) at (c .put-block .ensures)
+
+filters-asked : tie.Need-put-block-requires-2 I μ
+filters-asked c κs =
+    let p = c .before .before .before .before .before .before in
+    let few = held (b (f (e p))) .filters in
+    (rw (done (f (e p)) .filters) (room-second (put-rows p) (filters (e p)) (room (e p))), record { few = omega arith; among = omega arith })
+
+-- and then those of the filters
+whole : (c : tie.After-put-block2 I μ) → let k = e (c .before .before .before .before .before .before .before) in
+    Put (now (b (f k) .args .out)) 0 (c .put-block2 .last .0) (c .put-block2 .result) (rows k ++ filters k)
 whole c =
+    let p = c .before .before .before .before .before .before .before in
+    put-then (put-rows p) (rw (done (f (e p)) .filters) at (c .put-block2 .ensures))
+
+returns : tie.Need-returns-2 I μ
+returns c =
     let p = c .before .before in
-    let k = p .before .before .before .before .before in
-    listing-whole _ (room k) (counted (k .before)) (rw (same (k .before)) at (p .put-rows .ensures))
+    let k = e (p .before .before .before .before .before .before .before) in
+    listing-whole _ (let m = room k in let n = ap length (both k) in omega arith) (done (f k) .count) (rw (← both k) at (whole p))
 
 pub list-spec : {M : Type 1} → statement M
 list-spec =
@@ -161,5 +198,10 @@ list-spec =
     (λ c. let k = h (o (c .before .before .before)) in let n = held (a (c .before .before .before)) .rows in omega arith)
     (λ c. let k = h (o (c .before .before .before)) in omega arith)
     again
-    (λ c. let n = counted c in let f = entries-few (tableOf (t (b c))) (well (b c)) in omega arith)
-    short rows-asked (λ c. search needs) whole)
+    (λ c κs. let l = c .before .before .before .before .before .before in (held (s (l .before)) .filters, l .loop .inv .1 .pairs-long))
+    (λ c. let m = most c in omega arith)
+    (λ c. let m = most c in omega arith)
+    (λ c. let m = most c in omega arith)
+    short rows-asked filters-asked
+    (λ c. put-long (whole (c .before .before)))
+    returns)

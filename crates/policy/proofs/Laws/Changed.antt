@@ -24,7 +24,7 @@ module _ {t : Table} {caps : List Coefficients} {floor : Coefficients} {filters 
   root-changed r = record { entity = r .entity; root = r .root }
 
   pub filter-changed : {f : Filter} → FilterRule t f → FilterRule (changed t caps floor filters rows) f
-  filter-changed f = record { root = root-changed (f .root); selector = f .selector }
+  filter-changed f = record { root = root-changed (f .root); selector = f .selector; action = f .action }
 
   pub row-changed : {r : Row} → RowRule t r → RowRule (changed t caps floor filters rows) r
   row-changed r =

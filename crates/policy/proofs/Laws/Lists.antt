@@ -35,9 +35,10 @@ module _ (bounds : List ℕ) (k : ℕ) (s : Selector) (all : length s ≡ fieldC
   unfolding rangeIn
   selector-stays j h = selector-elsewhere fieldCount bounds k s all j h
 
-  pub filters-kept : (roots : List ℕ) (n : ℕ) → k < mostRows → tabulate (filterIn roots (putSelector bounds k s)) n ≡ tabulate (filterIn roots bounds) n
-  filters-kept roots n h =
-      tabulate-same (filterIn roots (putSelector bounds k s)) (filterIn roots bounds) n
+  pub filters-kept : (roots actions : List ℕ) (n : ℕ) → k < mostRows
+      → tabulate (filterIn roots actions (putSelector bounds k s)) n ≡ tabulate (filterIn roots actions bounds) n
+  filters-kept roots actions n h =
+      tabulate-same (filterIn roots actions (putSelector bounds k s)) (filterIn roots actions bounds) n
       (λ j b. rw (selector-stays (mostRows + j) (λ q. omega arith)))
 
   pub rows-kept : (heads : List ℕ) (n : ℕ) → n ≤ k → rowsIn heads (putSelector bounds k s) n ≡ rowsIn heads bounds n
@@ -66,27 +67,30 @@ entities-grown parents layers masks n e p l m =
     (simp (getD-set-same, p, l, m))
 
 pub filters-grown :
-    (roots bounds : List ℕ)
+    (roots actions bounds : List ℕ)
     (n : ℕ)
     (f : Filter) →
     n < length roots →
+    n < length actions →
     length (f .selector) ≡ fieldCount →
     boundCount * (mostRows + n) + boundCount ≤ length bounds →
-    tabulate (filterIn (set roots n (f .root)) (putSelector bounds (mostRows + n) (f .selector))) (n + 1)
-    ≡ tabulate (filterIn roots bounds) n ++ (f ∷ [])
-filters-grown roots bounds n f r all h =
+    tabulate (filterIn (set roots n (f .root)) (set actions n (f .action)) (putSelector bounds (mostRows + n) (f .selector))) (n + 1)
+    ≡ tabulate (filterIn roots actions bounds) n ++ (f ∷ [])
+filters-grown roots actions bounds n f r a all h =
     tabulate-grown
-    (filterIn (set roots n (f .root)) (putSelector bounds (mostRows + n) (f .selector)))
-    (filterIn roots bounds)
+    (filterIn (set roots n (f .root)) (set actions n (f .action)) (putSelector bounds (mostRows + n) (f .selector)))
+    (filterIn roots actions bounds)
     n
     f
     (λ k b.
     rw (
       getD-set-other roots n k (f .root) 0 (λ q. omega arith),
+      getD-set-other actions n k (f .action) 0 (λ q. omega arith),
       selector-stays bounds (mostRows + n) (f .selector) all (mostRows + k) (λ q. omega arith),
     ))
     (rw (
       getD-set-same roots n (f .root) 0 r,
+      getD-set-same actions n (f .action) 0 a,
       selector-read bounds (mostRows + n) (f .selector) all h,
     ))
 

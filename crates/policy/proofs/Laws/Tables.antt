@@ -35,6 +35,7 @@ pub record Sized (t : TableStruct) : Type 0 where
   pub masks : length (t .masks) ≡ mostEntities
   pub caps : length (t .caps) ≡ technologies
   pub filter-roots : length (t .«filter_roots») ≡ mostFilters
+  pub filter-actions : length (t .«filter_actions») ≡ mostFilters
   pub heads : length (t .heads) ≡ headCount * mostRows
   pub bounds : length (t .bounds) ≡ boundCount * mostSelectors
 
@@ -65,7 +66,7 @@ counted t h =
     record {
       entities = length-entities t;
       caps = length-map (take (t .capped) (t .caps)) coefficientsOf ∙ length-take-le (t .capped) (t .caps) h;
-      filters = length-tabulate (filterIn (t .«filter_roots») (t .bounds)) (t .filters);
+      filters = length-tabulate (filterIn (t .«filter_roots») (t .«filter_actions») (t .bounds)) (t .filters);
       rows = length-rows (t .heads) (t .bounds) (t .rows);
     }
 

@@ -17,7 +17,7 @@ use Rattle.printing.specs.Printed.{entryLine, entryLines, hexLines}
 pub lines-bytes : (es : List Entry) → hexLines (bytes es) ≡ entryLines es
 unfolding hexLines entryLines
 lines-bytes [] = ap hexLines bytes-none
-lines-bytes (e ∷ es) = ap hexLines (bytes-more e es) ∙ ap (λ (l : List ℕ). entryLine (e .row) (e .kind) (e .second) ++ l) (lines-bytes es)
+lines-bytes (e ∷ es) = ap hexLines (bytes-more e es) ∙ ap (λ (l : List ℕ). entryLine (e .first) (e .kind) (e .second) ++ l) (lines-bytes es)
 
 -- ---- how long they are
 

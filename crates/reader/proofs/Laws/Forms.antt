@@ -10,14 +10,16 @@ use Prim.Native.Nat.{ℕ, _+_}
 use native.Mathlib.Decide.{ℕ-discrete}
 use native.Mathlib.Omega.{arith}
 use borrow.Author.Tests.{eq-eqb, lt-ltb, le-leb, eqb-true}
-use lib.ListN.{length, getD}
+use lib.ListN.{length, getD, List·getD-eq-default}
 use Rattle.base.specs.Truths.{pick, Decides}
 use Rattle.policy.specs.Wellformed.{widths}
 use Rattle.frames.specs.Kinds.{FrameName, ofEntity, ofCap, ofFloor, ofFilter, ofRow, describe}
+use Rattle.base.proofs.Laws.Decides.{decides-holds}
+use Rattle.frames.proofs.Laws.Filters.{filterLength-decides}
 use Rattle.frames.proofs.Laws.Rows.{row-counted}
 use Rattle.frames.proofs.Laws.Kinds.{lawful}
 use Rattle.reader.specs.Frames.{Frame, aFrame, noFrame, frameIn, frameOf}
-use Rattle.reader.specs.Forms.{HasForm, entity-form, cap-form, floor-form, filter-form, row-form, SaysFrame}
+use Rattle.reader.specs.Forms.{HasForm, entity-form, cap-form, floor-form, filter-form, action-form, row-form, SaysFrame}
 use Rattle.reader.proofs.Laws.States.{kind-own, kind-other}
 
 -- ---- the form of a frame
@@ -64,7 +66,10 @@ form-framed : (b : ℕ) (bs : List ℕ) → HasForm (b ∷ bs) → isFrame (fram
 form-framed b bs (entity-form e l) = own-long ofEntity b bs e ∙ eq-eqb (length bs) 3 (omega arith)
 form-framed b bs (cap-form e l) = own-long ofCap b bs e ∙ eq-eqb (length bs) 4 (omega arith)
 form-framed b bs (floor-form e l) = own-long ofFloor b bs e ∙ eq-eqb (length bs) 3 (omega arith)
-form-framed b bs (filter-form e l) = own-long ofFilter b bs e ∙ eq-eqb (length bs) 27 (omega arith)
+form-framed b bs (filter-form e l) =
+    let none : getD bs 27 0 ≡ 0 = List·getD-eq-default bs 0 (omega arith) in
+    own-long ofFilter b bs e ∙ decides-holds _ (filterLength-decides bs) (inl (omega arith), omega arith)
+form-framed b bs (action-form e l a) = own-long ofFilter b bs e ∙ decides-holds _ (filterLength-decides bs) (inr (omega arith), a)
 form-framed b bs (row-form n e m few l) =
     own-long ofRow b bs e
     ∙ rw (lt-ltb 33 (length bs) (omega arith), le-leb (getD bs 33 0) 8 (omega arith)) (eq-eqb (length bs) (34 + getD bs 33 0) (omega arith))
@@ -73,7 +78,9 @@ long-form : (k : FrameName) (b : ℕ) (bs : List ℕ) → b ≡ describe k .byte
 long-form ofEntity b bs e h = let l = eqb-true (length bs) 3 h in entity-form e (omega arith)
 long-form ofCap b bs e h = let l = eqb-true (length bs) 4 h in cap-form e (omega arith)
 long-form ofFloor b bs e h = let l = eqb-true (length bs) 3 h in floor-form e (omega arith)
-long-form ofFilter b bs e h = let l = eqb-true (length bs) 27 h in filter-form e (omega arith)
+long-form ofFilter b bs e h =
+    let l = filterLength-decides bs .yes h in
+    elim (l .0) [ inl n ↦ filter-form e (omega arith) | inr n ↦ action-form e (omega arith) (l .1) ]
 long-form ofRow b bs e h = let c = row-counted widths bs h in row-form (getD bs 33 0) e refl (c .0) (omega (arith, c .1))
 
 framed-form : (b : ℕ) (bs : List ℕ) → isFrame (frameOf (b ∷ bs)) ≡ true → HasForm (b ∷ bs)
@@ -91,6 +98,7 @@ form-decides [] = record { yes = λ e. absurd (false≢true e); no = λ e h. not
     nothing-form (cap-form e l) = omega arith
     nothing-form (floor-form e l) = omega arith
     nothing-form (filter-form e l) = omega arith
+    nothing-form (action-form e l a) = omega arith
     nothing-form (row-form n e m few l) = omega arith
 form-decides (b ∷ bs) = record { yes = framed-form b bs; no = λ e h. true≢false (sym (form-framed b bs h) ∙ e) }
 

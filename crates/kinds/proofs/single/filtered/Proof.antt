@@ -1,42 +1,39 @@
--- `filtered` meets its contract: no filter before k filters the row. Assumes nothing.
+-- `filtered` meets its contract: no filter before k filters the row without an exception. Assumes nothing.
 use borrow.Author.Needs.{needs}
 use Prim.Native.Nat.{ℕ, _-_, _≤_}
-use mathlib.Core.Path.{_≡_, sym, ap, _∙_}
+use mathlib.Core.Path.{_≡_, sym, _∙_}
 use mathlib.Core.Bool.{Bool, false}
 use denote.Ref.{now}
 use Rattle.base.specs.Lists.{some}
 use Rattle.base.proofs.Laws.Members.{some-start, some-none, some-found, some-end}
 use Rattle.policy.specs.Views.{rowOf, filterIn}
-use Rattle.kinds.specs.Tests.{filters, filtered}
+use Rattle.kinds.specs.Tests.{filteredBy, filtered}
 use Rattle.kinds.proofs.single.filtered.Statement.{statement}
 use Rattle.kinds.proofs.single.filtered.Tie as tie
 
 abbrev I : tie.InvT-loop
-I filter-roots bounds count r k₀ k = (k ≤ count) × (some k (λ j. filters (rowOf r) (filterIn filter-roots bounds j)) ≡ false)
+I filter-roots filter-actions bounds count r k₀ k =
+    (k ≤ count) × (some k (λ j. filteredBy (filterIn filter-roots filter-actions bounds) j (rowOf r)) ≡ false)
 
 abbrev μ : tie.MeasureT-loop
-μ filter-roots bounds count r k₀ k = count - k
+μ filter-roots filter-actions bounds count r k₀ k = count - k
 
 -- whether a filter filters the row
 abbrev tests : tie.Start I μ → ℕ → Bool
-tests s k = filters (rowOf (s .args .r)) (filterIn (now (s .args .filter-roots)) (now (s .args .bounds)) k)
-
--- the test that was made is that of filter k
-tested : (c : tie.After-filters I μ) → tests (c .before .before .before .before) (c .before .before .before .loop .k) ≡ c .filters .result
-tested c = sym (c .filters .ensures ∙ ap (filters (rowOf (c .before .before .before .before .args .r))) (c .before .filter-at .ensures))
+tests s k = filteredBy (filterIn (now (s .args .filter-roots)) (now (s .args .filter-actions)) (now (s .args .bounds))) k (rowOf (s .args .r))
 
 found : tie.Need-returns I μ
 unfolding filtered
 found c =
     let f = c .before in
-    let l = f .before .before .before in
-    sym (some-found (tests (l .before)) _ (l .loop .k) (f .before .before .loop-test .taken) (tested f ∙ c .if1 .taken))
+    let l = f .before .before in
+    sym (some-found (tests (l .before)) _ (l .loop .k) (f .before .loop-test .taken) (sym (f .filtered-by .ensures) ∙ c .if1 .taken))
 
 next : tie.Need-loop-again I μ
 next c =
     let f = c .before in
-    let l = f .before .before .before in
-    (search needs, some-none (tests (l .before)) (l .loop .k) (l .loop .inv .1) (tested f ∙ c .if1 .left))
+    let l = f .before .before in
+    (search needs, some-none (tests (l .before)) (l .loop .k) (l .loop .inv .1) (sym (f .filtered-by .ensures) ∙ c .if1 .left))
 
 end : tie.Need-returns-2 I μ
 unfolding filtered
@@ -47,4 +44,4 @@ end c =
 pub filtered-spec : {M : Type 1} → statement M
 filtered-spec =
     tie.close
-    (tie.spec I μ (λ c. (search needs, some-start (tests c))) (λ c κs. search needs) (λ c κs. search needs) found (λ c. search needs) (λ c. search needs) next end)
+    (tie.spec I μ (λ c. (search needs, some-start (tests c))) (λ c κs. search needs) found (λ c. search needs) (λ c. search needs) next end)

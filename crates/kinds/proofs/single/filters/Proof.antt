@@ -1,4 +1,4 @@
--- `filters` meets its contract: it makes the two tests. Assumes nothing.
+-- `filters` meets its contract: it makes the three tests. Assumes nothing.
 use borrow.Author.Needs.{needs}
 use Rattle.kinds.specs.Tests.{filters}
 use Rattle.kinds.proofs.single.filters.Statement.{statement}

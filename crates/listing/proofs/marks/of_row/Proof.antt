@@ -43,7 +43,7 @@ returns c =
                 ∙ ap (λ (q : Placed). nonEnforceable (getD (now (s .masks)) (q .from) 0) (getD (now (s .masks)) (q .to) 0) (map coefficientsOf (s .caps)) (q .row)) e,
             inad .inadequate .ensures ∙ ap (λ (q : Placed). inadequate (coefficientsOf (s .floor)) (q .row)) e,
             super .superfluous .ensures,
-            filter .filtered .ensures ∙ ap (λ (q : Placed). filtered (filterIn (now (s .filter-roots)) (now (s .bounds))) (s .filters) (q .row)) e,
+            filter .filtered .ensures ∙ ap (λ (q : Placed). filtered (filterIn (now (s .filter-roots)) (now (s .filter-actions)) (now (s .bounds))) (s .filters) (q .row)) e,
             two .layer-two .ensures ∙ ap (λ (q : Placed). layerTwo (q .row)) e,
             asym .asymmetric .ensures,
             cycle .cyclic .ensures ∙ ap cyclic e,

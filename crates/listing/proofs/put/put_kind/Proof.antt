@@ -1,4 +1,4 @@
--- `put_kind` meets its contract: it writes the entries with each row, and then that of the row alone. Assumes nothing.
+-- `put_kind` meets its contract: it writes the entries with each thing, and then that of the thing alone. Assumes nothing.
 use borrow.Author.Needs.{needs}
 use mathlib.Core.List.{List}
 use denote.Ref.{now}
@@ -11,10 +11,10 @@ use Rattle.listing.proofs.Laws.Puts.{put-then, room-first, put-long, ro
 use Rattle.listing.proofs.put.put_kind.Statement.{statement}
 use Rattle.listing.proofs.put.put_kind.Tie as tie
 
--- the entries with each row, and the row's own
+-- the entries with each thing, and the thing's own
 module _ (s : tie.Start) where
   abbrev each : List Entry
-  each = pairsMarked (now (s .args .pairs)) (s .args .rows) (s .args .i) (s .args .kind)
+  each = pairsMarked (now (s .args .pairs)) (s .args .things) (s .args .i) (s .args .kind)
 
   abbrev own : List Entry
   own = listedIf (marked (s .args .own) (s .args .kind)) (s .args .i) (s .args .kind) noSecond

@@ -1,4 +1,4 @@
--- `put_pairs` meets its contract: what is left of the entries begins with that of row j. Assumes nothing.
+-- `put_pairs` meets its contract: what is left of the entries begins with that of thing j. Assumes nothing.
 use borrow.Author.Needs.{needs}
 use Prim.Native.Nat.{ℕ, _-_, _≤_}
 use mathlib.Core.List.{List}
@@ -12,19 +12,19 @@ use Rattle.listing.proofs.Laws.Puts.{put-long, Going, going-start, from
 use Rattle.listing.proofs.put.put_pairs.Statement.{statement}
 use Rattle.listing.proofs.put.put_pairs.Tie as tie
 
--- the entry with row k
+-- the entry with thing k
 abbrev at : List ℕ → ℕ → ℕ → ℕ → List Entry
 at pairs i kind k = listedIf (marked (markAt pairs i k) kind) i kind k
 
 abbrev I : tie.InvT-loop
-I out₀ n i kind pairs rows start m₀ j₀ out m j =
-    (j ≤ rows) × Going out₀ n out m (pairsMarked pairs rows i kind) (from (at pairs i kind) rows j)
+I out₀ n i kind pairs things start m₀ j₀ out m j =
+    (j ≤ things) × Going out₀ n out m (pairsMarked pairs things i kind) (from (at pairs i kind) things j)
 
 abbrev μ : tie.MeasureT-loop
-μ out₀ n i kind pairs rows start m₀ j₀ out m j = rows - j
+μ out₀ n i kind pairs things start m₀ j₀ out m j = things - j
 
 starts : tie.Need-loop-holds I μ
-starts c = (omega arith, rw (sub-zero (c .before .args .rows)) (going-start _ _ _))
+starts c = (omega arith, rw (sub-zero (c .before .args .things)) (going-start _ _ _))
 
 room : tie.Need-put-requires I μ
 room c κs =
@@ -32,7 +32,7 @@ room c κs =
     let s = l .before .before in
     let a = s .args in
     rw (c .marked .ensures)
-    (from-room (at (now (a .pairs)) (a .i) (a .kind)) (a .rows) (l .loop .j) (c .before .before .before .loop-test .taken) (l .loop .inv .1) (s .pre .0))
+    (from-room (at (now (a .pairs)) (a .i) (a .kind)) (a .things) (l .loop .j) (c .before .before .before .loop-test .taken) (l .loop .inv .1) (s .pre .0))
 
 again : tie.Need-loop-again I μ
 again c =
@@ -42,14 +42,14 @@ again c =
     let a = l .before .before .args in
     let h = k .loop-test .taken in (
       omega arith,
-      from-next (at (now (a .pairs)) (a .i) (a .kind)) (a .rows) (l .loop .j) h (l .loop .inv .1) (rw (p .before .marked .ensures) at (p .put .ensures)),
+      from-next (at (now (a .pairs)) (a .i) (a .kind)) (a .things) (l .loop .j) h (l .loop .inv .1) (rw (p .before .marked .ensures) at (p .put .ensures)),
     )
 
 returns : tie.Need-returns I μ
 returns c =
     let l = c .before in
     let a = l .before .before .args in
-    from-end (at (now (a .pairs)) (a .i) (a .kind)) (a .rows) (l .loop .j) (let h = c .loop-test .left in omega arith) (l .loop .inv .1)
+    from-end (at (now (a .pairs)) (a .i) (a .kind)) (a .things) (l .loop .j) (let h = c .loop-test .left in omega arith) (l .loop .inv .1)
 
 pub put-pairs-spec : {M : Type 1} → statement M
 put-pairs-spec =

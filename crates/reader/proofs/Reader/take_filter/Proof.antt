@@ -10,8 +10,8 @@ use Rattle.hex.specs.Lines.{bytesOf}
 use Rattle.policy.proofs.Laws.Tables.{Counted, parents-taken}
 use Rattle.frames.specs.Filters.{filterFrom, filterContent}
 use Rattle.frames.specs.Kinds.{ofFilter}
-use Rattle.frames.proofs.Laws.Parts.{bytes-there}
-use Rattle.frames.proofs.Laws.Filters.{few-filters}
+use Rattle.hex.proofs.Laws.Lines.{length-bytesOf}
+use Rattle.frames.proofs.Laws.Filters.{few-filters, filter-has-box}
 use Rattle.reader.specs.Views.{progressOf}
 use Rattle.reader.specs.declared.Reader.{Reader}
 use Rattle.reader.proofs.Laws.Readers.{table-counted, parents-lent}
@@ -37,6 +37,13 @@ fit c =
     fit-by (r s) ofFilter (bs s) (p .before .has-length .result) (p .has-place .result) (p .before .has-length .ensures)
     (rw (counts s .rows, counts s .filters) (p .has-place .ensures))
     (c .misfit .ensures)
+
+-- its box is there
+long : tie.Need-read-requires
+long c κs =
+    let s = c .before .before .before .before .before in
+    let h = filter-has-box (bs s) (has-form (fit (c .before)) (c .if1 .left)) in
+    omega (arith, length-bytesOf (now (s .args .part)))
 
 -- those of its content
 abbrev entry : tie.After-broken → tie.Start
@@ -77,6 +84,6 @@ take-filter-spec =
     tie.close
     (tie.spec (λ c κs. search needs) (λ c κs. search needs) (λ c κs. search needs) (λ c κs. search needs)
     (λ c. by-misfit (fit (c .before .before)) (c .before .if1 .taken) (c .refuse .ensures))
-    (λ c κs. bytes-there (now (c .before .before .before .before .before .args .part)) 27 (has-form (fit (c .before)) (c .if1 .left)))
+    long
     (λ c κs. let s = c .before .before .before .before .before .before .before .before in parents-lent (r s) (s .good .0) (s .pre))
     (λ c κs. search needs) broken room (λ c κs. search needs) value)

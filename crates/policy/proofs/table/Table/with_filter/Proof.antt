@@ -21,7 +21,7 @@ returns c =
       same =
           rw (
             past,
-            filters-grown (t .«filter_roots») (t .bounds) (t .filters) f (omega arith) refl (omega arith),
+            filters-grown (t .«filter_roots») (t .«filter_actions») (t .bounds) (t .filters) f (omega arith) (omega arith) refl (omega arith),
             rows-kept (t .bounds) (mostRows + t .filters) (f .selector) refl (t .heads) (t .rows) (omega arith),
           );
       held = search (c .before .before .pre .0 .unused, needs);
@@ -29,4 +29,4 @@ returns c =
 
 pub with-filter-spec : {M : Type 1} → statement M
 with-filter-spec =
-    tie.close (tie.spec (λ c. search needs) (λ c. search needs) (λ c κs. search needs) (λ c. search needs) returns)
+    tie.close (tie.spec (λ c. search needs) (λ c. search needs) (λ c. search needs) (λ c κs. search needs) (λ c. search needs) returns)
