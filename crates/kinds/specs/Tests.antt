@@ -208,12 +208,12 @@ monitorable p = p .crossing && (p .through && (not (p .back) && p .confidential)
 
 -- ---- of two filters
 
--- 21, shadowing among filters, of filter k, which is f, and filter m, which is g.
+-- 21, shadowing of filters, of filter k, which is f, and filter m, which is g.
 unfoldable pub filterShadowing : ℕ → ℕ → Filter → Filter → Bool
 filterShadowing k m f g =
     ltb k m && (eqb (f .root) (g .root) && (not (eqb (f .action) (g .action)) && contains (f .selector) (g .selector)))
 
--- 22, redundancy among filters.
+-- 22, redundancy of filters.
 unfoldable pub filterRedundancy : Filter → Filter → Bool
 filterRedundancy f g =
     eqb (f .action) dropping && (eqb (g .action) dropping && (not (eqb (f .root) (g .root)) && contains (f .selector) (g .selector)))

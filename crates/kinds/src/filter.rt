@@ -6,7 +6,7 @@ use policy::limits::DROPPING;
 use policy::row::Filter;
 use relations::selector;
 
-// 21, shadowing among filters: f, which is filter k, is of the root of g, which is filter m, and earlier, its box contains that of g, and their
+// 21, shadowing of filters: f, which is filter k, is of the root of g, which is filter m, and earlier, its box contains that of g, and their
 // actions differ.
 pub fn shadowing(k: usize, m: usize, f: Filter, g: Filter) -> bool
     ensures { λ b. ⌜ b ≡ filterShadowing k m (filterOf f) (filterOf g) ⌝ }
@@ -20,7 +20,7 @@ pub fn shadowing(k: usize, m: usize, f: Filter, g: Filter) -> bool
     (f.action != g.action) & selector::contains(f.selector, g.selector)
 }
 
-// 22, redundancy among filters: f and g drop, are of different roots, and the box of f contains that of g.
+// 22, redundancy of filters: f and g drop, are of different roots, and the box of f contains that of g.
 pub fn redundancy(f: Filter, g: Filter) -> bool
     ensures { λ b. ⌜ b ≡ filterRedundancy (filterOf f) (filterOf g) ⌝ }
 {
