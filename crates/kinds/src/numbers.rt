@@ -49,11 +49,11 @@ pub const KINDS: usize = FILTER_REDUNDANCY;
 // The first kind of rows and how many there are, and the same of filters.
 pub const ROW_KIND: u8 = 1;
 
-pub const ROW_KINDS: u8 = 20;
+pub const ROW_KINDS: u8 = DEAD as u8;
 
 pub const FILTER_KIND: u8 = ROW_KIND + ROW_KINDS;
 
-pub const FILTER_KINDS: u8 = 2;
+pub const FILTER_KINDS: u8 = (KINDS - DEAD) as u8;
 
 // The second number of an entry of one row: FF.
 pub const NO_SECOND: u8 = 255;
