@@ -1,11 +1,11 @@
-//! Climbing from a table, by small changes, to others that cost more: more values tried, or more time.
+//! Climbing from a table, by small changes, to others that cost more: more values tried, more blocks examined, or more time.
 
 use crate::grid::Grid;
 use crate::library::{Call, Text, OUT_BYTES};
 use crate::moves::change;
 use crate::random::Random;
 use crate::table::{Row, Table};
-use crate::{tables, worst};
+use crate::{meshes, tables, worst};
 use std::time::{Duration, Instant};
 
 /// How many changes make the next table.
@@ -30,17 +30,20 @@ const LONG: Duration = Duration::from_millis(8);
 pub enum Cost {
     /// How many values are tried in Rust to tell which of its rows are dead.
     Values,
+    /// How many blocks are examined in Rust for the mesh of its last row.
+    Blocks,
     /// The seconds of List.
     Time,
 }
 
-/// The holder of all rows, or none where each is its source's; the entities that sources and destinations are drawn from; and how many
-/// changes of a hundred are of a row's ends.
+/// The holder of all rows, or none where each is its source's; the entities that sources and destinations are drawn from; how many
+/// changes of a hundred are of a row's ends; and whether the last row stays as it is.
 pub struct Ends {
     pub holder: Option<u8>,
     pub sources: &'static [usize],
     pub destinations: &'static [usize],
     pub percent: usize,
+    pub last_stays: bool,
 }
 
 /// A table and its text, the grid that its changes are drawn from, and its cost.
@@ -92,6 +95,7 @@ impl Climber {
     fn cost(&mut self, tried: &Tried, by: Cost) -> f64 {
         match by {
             Cost::Values => worst::dead_values(&tried.table).iter().sum::<u64>() as f64,
+            Cost::Blocks => meshes::blocks(&tried.table, tried.text.rows - 1) as f64,
             Cost::Time => {
                 let start = Instant::now();
                 tried.text.here(Call::List, &mut self.out);
@@ -122,8 +126,9 @@ impl Climber {
     /// The table after so many changes; none if it is the same or Check refuses it.
     pub fn changed(&mut self, from: &Tried, changes: (usize, usize), by: Cost) -> Option<Tried> {
         let mut table = from.table.clone();
+        let rows = &mut table.rows;
+        let last = rows.pop_if(|_| self.ends.last_stays);
         for _ in 0..self.random.between(changes.0, changes.1) {
-            let rows = &mut table.rows;
             if self.random.chance(self.ends.percent) {
                 let row = self.random.below(rows.len());
                 rows[row] = self.with_ends(&rows[row]);
@@ -131,6 +136,7 @@ impl Climber {
                 change(&mut self.random, &from.grid, rows);
             }
         }
+        rows.extend(last);
         if table.rows == from.table.rows {
             return None;
         }
@@ -185,7 +191,7 @@ impl Climber {
     /// enough, and longer where it seems a gain, so that no slow call passes for one.
     fn gain(&mut self, next: &mut Tried, peak: &mut Tried, by: Cost) -> f64 {
         let mut gain = next.cost / peak.cost;
-        if by == Cost::Values {
+        if by != Cost::Time {
             return gain;
         }
         for (least, turns) in [(ENOUGH, TURNS), (GAIN, GAIN_TURNS)] {

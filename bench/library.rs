@@ -1,4 +1,4 @@
-//! The six calls that are measured, of the static libraries and of the second implementation. Each reads its text.
+//! The seven calls that are measured, of the static libraries and of the second implementation. Each reads its text.
 
 use crate::calls::{write, Reading};
 use crate::frames;
@@ -10,6 +10,7 @@ extern "C" {
     fn lainukesk_list(text: *const u8, len: usize, out: *mut u8, out_len: usize) -> u64;
     fn timed_check(text: *const u8, len: usize) -> u64;
     fn timed_witness(text: *const u8, len: usize, row: usize) -> u64;
+    fn timed_mesh(text: *const u8, len: usize, row: usize) -> u64;
     fn timed_strike(text: *const u8, len: usize, out: *mut u8, out_len: usize) -> u64;
     fn timed_join(
         text: *const u8,
@@ -40,15 +41,17 @@ pub enum Call {
     Check,
     List,
     Witness,
+    Mesh,
     Strike,
     Join,
     Prefixes,
 }
 
-pub const CALLS: [Call; 6] = [
+pub const CALLS: [Call; 7] = [
     Call::Check,
     Call::List,
     Call::Witness,
+    Call::Mesh,
     Call::Strike,
     Call::Join,
     Call::Prefixes,
@@ -70,8 +73,15 @@ impl Text {
         }
     }
 
-    /// What the static library answers: 0 for a text that Check accepts, List's count, Witness of the last row as 0 or, where it
-    /// is dead, 1, the length of Strike's text, and that of the line of the last row joined with itself, the count of its source's
+    /// The text of the table up to the row, which is the last.
+    pub fn up_to(table: &Table, row: usize) -> Text {
+        let mut table = table.clone();
+        table.rows.truncate(row + 1);
+        Text::of(&table)
+    }
+
+    /// What the static library answers: 0 for a text that Check accepts, List's count, Witness and Mesh of the last row as 0 or, where
+    /// it is dead, 1, the length of Strike's text, and that of the line of the last row joined with itself, the count of its source's
     /// prefixes.
     pub fn here(&self, call: Call, out: &mut [u8]) -> u64 {
         let (text, len) = (self.bytes.as_ptr(), self.bytes.len());
@@ -81,6 +91,7 @@ impl Text {
                 Call::Check => timed_check(text, len),
                 Call::List => lainukesk_list(text, len, out.as_mut_ptr(), out.len()),
                 Call::Witness => timed_witness(text, len, self.rows - 1),
+                Call::Mesh => timed_mesh(text, len, self.rows - 1),
                 Call::Strike => timed_strike(text, len, out.as_mut_ptr(), out.len()),
                 Call::Join => {
                     let last = self.rows - 1;
@@ -105,6 +116,7 @@ impl Text {
                 entries.len() as u64
             }
             Call::Witness => reading.witness(self.rows - 1)?.is_none() as u64,
+            Call::Mesh => reading.mesh(self.rows - 1)?.is_none() as u64,
             Call::Strike => {
                 let struck = reading.strike()?;
                 write(&struck, out)?;

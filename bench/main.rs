@@ -1,15 +1,18 @@
-//! Times the calls of the static libraries beside the second implementation and beside the same search in Rust, in one run, and
-//! measures the library's size and the stack that the calls use. Looks for tables on which List takes long.
+//! Times the calls of the static libraries beside the second implementation and beside the same search and the same mesh in Rust, in one
+//! run, and measures the library's size and the stack that the calls use. Looks for tables on which List or Mesh takes long.
 //!
-//! bench page LIBRARY                      prints the page; LIBRARY is the archive whose size is told
-//! bench hunt SECONDS SEED FILE [chains]   writes the table on which List takes longest of those tried in the time; with `chains`
-//!                                         they are tables of rows from root to root
+//! bench page LIBRARY                           prints the page; LIBRARY is the archive whose size is told
+//! bench hunt SECONDS SEED FILE [chains|mesh]   writes the table on which List takes longest of those tried in the time; with `chains`
+//!                                              they are tables of rows from root to root; with `mesh` the one whose last row has most
+//!                                              blocks examined by the mesh in Rust
 
+mod blocks;
 mod climb;
 mod clock;
 mod hunt;
 mod library;
 mod measured;
+mod meshes;
 mod page;
 mod search;
 mod size;
@@ -42,10 +45,14 @@ mod grid;
 mod join;
 #[path = "../tests/second/kinds.rs"]
 mod kinds;
+#[path = "../tests/second/mesh.rs"]
+mod mesh;
 #[path = "../tests/second/moves.rs"]
 mod moves;
 #[path = "../tests/second/pairs.rs"]
 mod pairs;
+#[path = "../tests/second/parts.rs"]
+mod parts;
 #[path = "../tests/second/prefixes.rs"]
 mod prefixes;
 #[allow(dead_code)]
@@ -94,12 +101,13 @@ fn run(words: &[&str]) -> Result<bool, String> {
             let sort = match sort {
                 [] => hunt::Sort::Group,
                 ["chains"] => hunt::Sort::Chains,
-                _ => return Err("the word after the file is chains, or none".into()),
+                ["mesh"] => hunt::Sort::Mesh,
+                _ => return Err("the word after the file is chains or mesh, or none".into()),
             };
             hunt::hunt(number(seconds)?, number(seed)?, Path::new(file), sort)?;
             Ok(true)
         }
-        _ => Err("page LIBRARY or hunt SECONDS SEED FILE [chains]".into()),
+        _ => Err("page LIBRARY or hunt SECONDS SEED FILE [chains|mesh]".into()),
     }
 }
 

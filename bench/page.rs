@@ -1,14 +1,14 @@
-//! The page: the calls' times, how they grow with the rows, the worst tables, the library's size, the stack, and the targets.
+//! The page: the calls' times, how they grow with the rows, the worst tables and rows, the library's size, the stack, and the targets.
 
 use crate::clock::{ms, ratio};
 use crate::library::{Call, Text, CALLS, OUT_BYTES};
 use crate::measured::{measure, Measured};
-use crate::reader::read;
+use crate::reader::{read, MOST_ROWS};
 use crate::stack;
 use crate::stored::STORED;
 use crate::table::Table;
 use crate::targets::{self, Target};
-use crate::{size, tables, worst};
+use crate::{meshes, size, tables, worst};
 use std::time::Duration;
 
 /// What List of a typical full table is to stay under.
@@ -29,17 +29,19 @@ pub fn print(library: &str) -> bool {
         ("layers", tables::layers),
         ("slabs", tables::slabs),
         ("split slabs", tables::split_slabs),
+        ("corners", tables::corners),
     ];
     let families = families.map(|(name, make)| SIZES.map(|rows| measure(name, make(rows))));
-    let [[.., typical], [.., layers], [.., slabs], [.., split_slabs]] = &families;
+    let [[.., typical], [.., layers], [.., slabs], [.., split_slabs], [.., corners]] = &families;
     let fullest = measure("fullest", tables::fullest());
     let largest_list = measure("largest list", tables::largest_list());
     let measure_stored = |&(name, text): &(&'static str, _)| {
         measure(name, read(text).expect("stored tables are lawful"))
     };
     let chains = measure("chains", tables::chains());
+    let strips = measure("strips", tables::strips(MOST_ROWS));
     let stored: Vec<Measured> = STORED.iter().map(measure_stored).collect();
-    let worst = [layers, &chains, slabs, split_slabs].into_iter();
+    let worst = [layers, &chains, slabs, split_slabs, corners, &strips].into_iter();
     let worst: Vec<&Measured> = worst.chain(&stored).collect();
     let full = [typical, &fullest, &largest_list].into_iter();
     print_calls(full.chain(worst.iter().copied()));
@@ -54,12 +56,13 @@ pub fn print(library: &str) -> bool {
     }];
     targets.extend(worst::lists(typical.list(), &worst));
     targets.extend(worst::searches(&worst));
+    targets.push(meshes::meshes(&worst));
     targets.push(code(library));
     targets.push(stacks(
         families
             .iter()
             .flatten()
-            .chain([&fullest, &largest_list, &chains])
+            .chain([&fullest, &largest_list, &chains, &strips])
             .chain(&stored),
     ));
     targets::print(&targets)

@@ -1,7 +1,7 @@
 //! The tables that are measured, but for those of tests/second/stored.rs, and what they are made of.
 
 use crate::draft::everything;
-use crate::families::{families, halves};
+use crate::families::{self, families, slices};
 use crate::reader::read;
 use crate::table::{Entity, Filter, Range, Row, Selector, Table, FIELDS, NONE};
 
@@ -166,9 +166,32 @@ pub fn slabs(rows: usize) -> Table {
 /// which one has its own ranges of protocols, the other of destination addresses; and rows that they hide.
 pub fn split_slabs(rows: usize) -> Table {
     let parts = 5 * rows / 64;
-    let regions = halves(&everything(), 2).into_iter().zip([FIELDS - 1, 1]);
+    let regions = slices(&everything(), 2, 2).into_iter().zip([FIELDS - 1, 1]);
     let boxes = regions.flat_map(|(region, last)| families(&region, last, parts));
     hiding(rows, boxes.collect())
+}
+
+/// Hard for blocks of cells if they go by the box that ends first: boxes in ever larger ones, and a row that is hidden by the largest and
+/// what lies past it.
+pub fn corners(rows: usize) -> Table {
+    let boxes = families::corners(&everything(), rows - FIELDS - 2);
+    one_group(boxes.into_iter().chain([everything()]))
+}
+
+/// Deepest for blocks of cells: boxes that each have another part of the source addresses, and then a row of all packets, which they hide.
+pub fn strips(rows: usize) -> Table {
+    let strips = slices(&everything(), 0, rows - 1);
+    one_group(strips.into_iter().chain([everything()]))
+}
+
+/// A table of rows with these boxes, all from the first root to the second.
+pub fn one_group(boxes: impl IntoIterator<Item = Selector>) -> Table {
+    let mut table = fan(0);
+    table.rows = boxes
+        .into_iter()
+        .map(|selector| row(0, 1, selector))
+        .collect();
+    table
 }
 
 /// A table of so many rows: these boxes, then rows of all packets whose sources stand side by side, so that none covers another.

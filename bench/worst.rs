@@ -94,10 +94,8 @@ pub fn dead_values(table: &Table) -> Vec<u64> {
 
 /// The times of the row's search here, which is what Witness takes longer than Check, and in Rust.
 fn times(table: &Table, row: usize) -> [Duration; 2] {
-    let mut table = table.clone();
-    table.rows.truncate(row + 1);
-    let text = Text::of(&table);
-    let (own, cover) = boxes(&table, row);
+    let text = Text::up_to(table, row);
+    let (own, cover) = boxes(table, row);
     let mut check = || assert_eq!(text.here(Call::Check, &mut []), 0);
     let mut witness = || {
         black_box(text.here(Call::Witness, &mut []));
@@ -110,7 +108,7 @@ fn times(table: &Table, row: usize) -> [Duration; 2] {
 }
 
 /// The row's box, and those of the rows that cover it.
-fn boxes(table: &Table, row: usize) -> (Bounds, Vec<Bounds>) {
+pub fn boxes(table: &Table, row: usize) -> (Bounds, Vec<Bounds>) {
     let cover = dead::cover(table, row).map(bounds);
     (bounds(&table.rows[row]), cover.collect())
 }

@@ -1,5 +1,5 @@
 //! What is promised of rows added at the end held against what the proved program prints: each old row keeps its dead mark or its
-//! witness, and a probe that had a winner keeps that winner. Every other entry of old rows stands too, and so do those of filters.
+//! witness, by the mesh as well, and a probe that had a winner keeps that winner. Every other entry of old rows stands too, and so do those of filters.
 //!
 //! Nothing of the second implementation's methods is used: a text is cut at its lines, and what was printed before and after is
 //! compared line by line. Kinds 12, 16 and 19, pairs with a new row and probes that had no winner are left out: they may change.
@@ -41,17 +41,21 @@ pub fn check(
         .map_err(|broken| format!("with rows added after the first {rows}, {broken}"))
 }
 
-/// Checks that each old row keeps its dead mark, or has none again, and that Witness says the same of it.
+/// Checks that each old row keeps its dead mark, or has none again, and that Witness and Mesh say the same of it.
 fn check_rows(rows: usize, before: &Answers, after: &Answers) -> Result<(), String> {
     let [old, new] = [before, after].map(|answers| dead_rows(&answers.list));
     for row in 0..rows {
         ensure(old.contains(&row) == new.contains(&row), || {
             format!("row {row} gets a dead mark, or loses its own")
         })?;
-        let [old, new] = [before, after].map(|answers| nth_line(&answers.witnesses, row));
-        ensure(old == new, || {
-            format!("Witness answers otherwise for row {row}")
-        })?;
+        for (call, old, new) in [
+            ("Witness", &before.witnesses, &after.witnesses),
+            ("Mesh", &before.meshes, &after.meshes),
+        ] {
+            ensure(nth_line(old, row) == nth_line(new, row), || {
+                format!("{call} answers otherwise for row {row}")
+            })?;
+        }
     }
     Ok(())
 }
@@ -165,13 +169,14 @@ mod tests {
             let witnesses =
                 b"00000000000000000000000000\n00000000000000000000800000\ndead\ndead\n!0900\n";
             assert_eq!(after.witnesses, witnesses);
+            assert_eq!(after.meshes, witnesses);
             assert_eq!(after.winners, b"01\n");
         }));
     }
 
     #[test]
     fn wrong_answers_break_it() {
-        let all_alter: [fn(&mut Answers); 17] = [
+        let all_alter: [fn(&mut Answers); 20] = [
             |after| after.list = without(&after.list, b"0214FF\n"),
             |after| after.list.extend(b"0114FF\n"),
             |after| after.list = without(&after.list, b"000802\n"),
@@ -185,6 +190,9 @@ mod tests {
             |after| after.witnesses[..26].copy_from_slice(b"00000000000000000000000100"),
             |after| after.witnesses.splice(..26, *b"dead").for_each(drop),
             |after| after.witnesses.splice(54..58, [b'0'; 26]).for_each(drop),
+            |after| after.meshes[..26].copy_from_slice(b"00000000000000000000000100"),
+            |after| after.meshes.splice(..26, *b"dead").for_each(drop),
+            |after| after.meshes.splice(54..58, [b'0'; 26]).for_each(drop),
             |after| after.winners = b"03\n".to_vec(),
             |after| after.winners = b"00\n".to_vec(),
             |after| after.winners = b"none\n".to_vec(),
@@ -219,6 +227,7 @@ mod tests {
         assert!(holds(|after| after.list = without(&after.list, b"0314FF\n")));
         assert!(holds(|after| after.list = without(&after.list, b"000803\n")));
         assert!(holds(|after| after.witnesses[59..].fill(b'0')));
+        assert!(holds(|after| after.meshes[59..].fill(b'0')));
     }
 
     #[test]

@@ -1,9 +1,10 @@
-//! The eight calls on a text, with their refusals.
+//! The nine calls on a text, with their refusals.
 
 use crate::dead;
 use crate::frames::row_line;
 use crate::join::joined;
 use crate::kinds::{self, Entry};
+use crate::mesh;
 use crate::prefixes::{prefixes, Prefix, ADDRESS_BITS};
 use crate::probes::Probe;
 use crate::reader::{is_entity, read};
@@ -67,6 +68,11 @@ impl<'t> Reading<'t> {
     /// The row's least winning packet, or none if it is dead.
     pub fn witness(&self, row: usize) -> Result<Option<Packet>, Refusal> {
         Ok(dead::witness(self.table_with_row(row)?, row))
+    }
+
+    /// The same by the mesh.
+    pub fn mesh(&self, row: usize) -> Result<Option<Packet>, Refusal> {
+        Ok(mesh::witness(self.table_with_row(row)?, row))
     }
 
     /// The text without its dead rows' lines.

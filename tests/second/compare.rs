@@ -11,6 +11,7 @@ use crate::programs::{name, piped, Programs};
 use crate::promises;
 use crate::questions::Questions;
 use crate::reader::read;
+use crate::rest::Rest;
 use crate::upper;
 use std::path::Path;
 use std::sync::atomic::{AtomicU64, Ordering};
@@ -193,49 +194,14 @@ fn compare_answers(programs: &Programs, cases: &[(u64, Case)]) -> Result<Vec<Ans
             return Err(Difference { number, told });
         }
     };
-    let mut rest = &printed[..];
+    let mut rest = Rest::new(&printed);
     let mut proved = Vec::new();
     for (place, (number, case)) in cases.iter().enumerate() {
         let second = printed::answers(&name(place), &case.text, &case.questions);
-        let mut same = |call: &str, second: &[u8]| match rest.strip_prefix(second) {
-            Some(after) => {
-                let proved = rest[..second.len()].to_vec();
-                rest = after;
-                Ok(proved)
-            }
-            None => {
-                let shown = beginning(rest, second);
-                let what = format!("{call} by answers");
-                Err(Difference::between(*number, &what, second, shown))
-            }
-        };
-        proved.push(Answers {
-            check: same("Check", &second.check)?,
-            lines: same("Line", &second.lines)?,
-            list: same("List", &second.list)?,
-            witnesses: same("Witness", &second.witnesses)?,
-            struck: same("Strike", &second.struck)?,
-            winners: same("Winner", &second.winners)?,
-            joins: same("Join", &second.joins)?,
-            prefixes: same("Prefixes", &second.prefixes)?,
-        });
+        proved.push(rest.same(*number, &second)?);
     }
-    if rest.is_empty() {
-        Ok(proved)
-    } else {
-        Err(Difference::between(number, "the end of answers", b"", rest))
-    }
-}
-
-/// As many lines of what was printed as the other answer has, and one more.
-fn beginning<'p>(printed: &'p [u8], other: &[u8]) -> &'p [u8] {
-    let lines = other.split_inclusive(|&byte| byte == b'\n').count();
-    let length = printed
-        .split_inclusive(|&byte| byte == b'\n')
-        .take(lines + 1)
-        .map(<[u8]>::len)
-        .sum();
-    &printed[..length]
+    rest.end(number)?;
+    Ok(proved)
 }
 
 /// Compares what `answers` prints of the same texts in another case of their letters, and holds the answers against each other.

@@ -1,14 +1,15 @@
 //! Seeded lawful tables of rows of one group that mostly cover each other: many are dead by several others together, or just not.
 
 use crate::draft::{draft, everything, few, Draft, Scale};
-use crate::families::{families, halves};
+use crate::families::{corners, families, slices};
 use crate::grid::Grid;
 use crate::moves::change;
+use crate::parts::{parts, sides};
 use crate::random::Random;
 use crate::reader::{read, MOST_ROWS};
 use crate::relations::in_selector;
 use crate::stored::STORED;
-use crate::table::{Packet, Selector, Table, FIELDS};
+use crate::table::{Selector, Table, FIELDS};
 
 /// How many tables of a hundred, but tiny ones, are stored ones with a few changes: they have all rows, and take long.
 const STORED_PERCENT: usize = 12;
@@ -22,16 +23,17 @@ pub fn covered(random: &mut Random, scale: Scale) -> Table {
     }
     let mut draft = draft(random, scale);
     let mut rows = draft.row_count();
-    let boxes = match draft.random.below(6) {
-        0 => draft.stairs(rows),
-        1 => draft.cells(rows),
-        2 | 3 => {
-            // Only with many parts do they take long.
-            if scale != Scale::Tiny && draft.random.chance(50) {
-                rows = MOST_ROWS;
-            }
-            draft.families(rows)
-        }
+    let family = draft.random.below(9);
+    // Only with many parts do they take long.
+    if family < 4 && scale != Scale::Tiny && draft.random.chance(50) {
+        rows = MOST_ROWS;
+    }
+    let boxes = match family {
+        0 | 1 => draft.families(rows),
+        2 | 3 => draft.parts(rows),
+        4 => draft.stairs(rows),
+        5 => draft.cells(rows),
+        6 => draft.corners(rows),
         _ => draft.all_but_one(rows),
     };
     draft.add_group(&boxes[..rows.min(boxes.len())]);
@@ -108,19 +110,42 @@ impl Draft<'_> {
         let regions = if self.random.chance(50) {
             vec![self.whole]
         } else {
-            halves(&self.whole, self.random.below(FIELDS))
+            slices(&self.whole, self.random.below(FIELDS), 2)
         };
         let parts = count.saturating_sub(1) / (regions.len() * (FIELDS - 1));
         let mut boxes = Vec::new();
         for region in regions {
             boxes.extend(families(&region, self.random.below(FIELDS), parts));
         }
+        self.miss_some(&mut boxes);
+        boxes.push(self.whole);
+        boxes
+    }
+
+    /// Makes, in half of the cases, one of the boxes smaller by a value.
+    fn miss_some(&mut self, boxes: &mut [Selector]) {
         if !boxes.is_empty() && self.random.chance(50) {
             let k = self.random.below(boxes.len());
             let range = &mut boxes[k][self.random.below(FIELDS)];
             range.high = range.low.max(range.high.saturating_sub(1));
         }
-        boxes.push(self.whole);
+    }
+
+    /// Corners and what lies past them, in any order, which have all packets or miss some by one bound; then all packets, twice.
+    fn corners(&mut self, count: usize) -> Vec<Selector> {
+        let nested = count.saturating_sub(FIELDS + 3);
+        let mut boxes = corners(&self.whole, nested);
+        self.miss_some(&mut boxes);
+        self.random.shuffle(&mut boxes);
+        boxes.truncate(count.saturating_sub(2));
+        boxes.extend([self.whole; 2]);
+        boxes
+    }
+
+    /// Parts that leave out one packet, each made a little larger; then all packets, twice.
+    fn parts(&mut self, count: usize) -> Vec<Selector> {
+        let mut boxes = parts(self.random, &self.whole, count.saturating_sub(2));
+        boxes.extend([self.whole; 2]);
         boxes
     }
 
@@ -151,23 +176,6 @@ impl Draft<'_> {
     }
 }
 
-/// The parts of a selector on each side of a packet in it, in each field: all that it has but the packet.
-fn sides(selector: &Selector, packet: &Packet) -> Vec<Selector> {
-    let mut sides = Vec::new();
-    for (field, &value) in packet.iter().enumerate() {
-        let [mut below, mut above] = [*selector; 2];
-        if selector[field].low < value {
-            below[field].high = value - 1;
-            sides.push(below);
-        }
-        if value < selector[field].high {
-            above[field].low = value + 1;
-            sides.push(above);
-        }
-    }
-    sides
-}
-
 #[cfg(test)]
 mod tests {
     use super::*;
@@ -175,21 +183,6 @@ mod tests {
     use crate::dead::{dead, witness};
     use crate::relations::{contains, same_group};
     use crate::table::Range;
-
-    #[test]
-    fn sides_have_all_but_the_packet() {
-        let whole = [Range { low: 1, high: 3 }; FIELDS];
-        for packet in [[1, 2, 3, 2, 1], [1; FIELDS], [3; FIELDS], [2; FIELDS]] {
-            let sides = sides(&whole, &packet);
-            for number in 0..3u32.pow(5) {
-                let other = [81, 27, 9, 3, 1].map(|place| 1 + number / place % 3);
-                let held = sides.iter().any(|side| in_selector(&other, side));
-                assert_eq!(held, other != packet);
-            }
-        }
-        let only = [Range { low: 2, high: 2 }; FIELDS];
-        assert!(sides(&only, &[2; FIELDS]).is_empty());
-    }
 
     #[test]
     fn rows_are_dead_by_several_together_or_just_not() {

@@ -44,7 +44,7 @@ impl Difference {
 }
 
 /// The bytes for reading: other characters escaped, and a last line without line feed marked.
-fn shown(bytes: &[u8]) -> String {
+pub fn shown(bytes: &[u8]) -> String {
     let mut shown: String = bytes
         .split_inclusive(|&byte| byte == b'\n')
         .map(|line| match line.split_last() {

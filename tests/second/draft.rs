@@ -1,5 +1,6 @@
 //! A lawful table in the making: its entities and bounds, and draws of rows and their parts.
 
+use crate::parts::cut;
 use crate::random::Random;
 use crate::reader::{MOST_ENTITIES, MOST_GATEWAYS, TECHNOLOGIES};
 use crate::relations::{above, lineage, root};
@@ -378,22 +379,6 @@ impl Draft<'_> {
 
     /// Disjoint parts of the selector, at most so many, that hold all its packets.
     pub fn cut(&mut self, selector: &Selector, pieces: usize) -> Vec<Selector> {
-        let mut parts = vec![*selector];
-        for _ in 0..4 * pieces {
-            if parts.len() == pieces {
-                break;
-            }
-            let k = self.random.below(parts.len());
-            let field = self.random.below(FIELDS);
-            let Range { low, high } = parts[k][field];
-            if low < high {
-                let last = low + self.random.below((high - low) as usize) as u32;
-                let mut upper = parts[k];
-                upper[field].low = last + 1;
-                parts[k][field].high = last;
-                parts.push(upper);
-            }
-        }
-        parts
+        cut(self.random, selector, pieces)
     }
 }

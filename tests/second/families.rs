@@ -1,5 +1,6 @@
-//! Boxes in families, which together have all packets of a region: each family splits another field into parts, and has its own range of
-//! one field more. In an order of the fields that ends with the latter each combination of parts has a cover of its own.
+//! Boxes that together have all packets of a region. Families: each splits another field into parts, and has its own range of one field
+//! more; in an order of the fields that ends with the latter each combination of parts has a cover of its own. Corners: most of them lie in
+//! a larger one and are of no use, and a cell may be in nearly all of them.
 
 use crate::table::{Range, Selector, FIELDS};
 
@@ -15,10 +16,33 @@ pub fn families(region: &Selector, last: usize, parts: usize) -> Vec<Selector> {
     boxes
 }
 
-/// The halves of a region, by a field.
-pub fn halves(region: &Selector, field: usize) -> Vec<Selector> {
-    let halves = split(region[field], 2).into_iter();
-    halves.map(|half| with(region, field, half)).collect()
+/// Boxes from the region's lows to ever larger highs, so many; one that is larger in each field; and of each field what lies past that.
+pub fn corners(region: &Selector, nested: usize) -> Vec<Selector> {
+    let steps = nested as u64 + 2;
+    let corner = |step: u64| {
+        region.map(|Range { low, high }| Range {
+            low,
+            high: low + (u64::from(high - low) * step / steps) as u32,
+        })
+    };
+    let mut boxes: Vec<Selector> = (1..steps).map(corner).collect();
+    for (field, Range { high, .. }) in corner(steps - 1).into_iter().enumerate() {
+        let whole = region[field];
+        if high < whole.high {
+            let past = Range {
+                low: high + 1,
+                ..whole
+            };
+            boxes.push(with(region, field, past));
+        }
+    }
+    boxes
+}
+
+/// The region in so many parts, by a field.
+pub fn slices(region: &Selector, field: usize, parts: usize) -> Vec<Selector> {
+    let slices = split(region[field], parts).into_iter();
+    slices.map(|part| with(region, field, part)).collect()
 }
 
 /// The selector with another range in a field.
@@ -75,12 +99,32 @@ mod tests {
                 assert_eq!(holding.count(), 1);
             }
         }
-        let [lower, upper] = halves(&region, 3)[..] else {
+        let [lower, upper] = slices(&region, 3, 2)[..] else {
             panic!("two halves");
         };
         assert_eq!(
             (lower[3].low, lower[3].high + 1, upper[3].high),
             (2, upper[3].low, 6)
         );
+    }
+
+    #[test]
+    fn corners_have_all_packets() {
+        let mut region = [Range { low: 2, high: 6 }; FIELDS];
+        for nested in 0..4 {
+            let boxes = corners(&region, nested);
+            assert_eq!(boxes.len(), nested + 1 + FIELDS);
+            for number in 0..5u32.pow(5) {
+                let packet = [625, 125, 25, 5, 1].map(|place| 2 + number / place % 5);
+                assert!(boxes.iter().any(|selector| in_selector(&packet, selector)));
+            }
+            let past = |field: usize| boxes[nested + 1 + field][field].low - 1;
+            assert_eq!(
+                boxes[nested].map(|range| range.high),
+                [0, 1, 2, 3, 4].map(past)
+            );
+        }
+        region[1].high = 2;
+        assert_eq!(corners(&region, 3).len(), 4 + FIELDS - 1);
     }
 }

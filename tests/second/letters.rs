@@ -57,6 +57,7 @@ pub fn check(one: &Answers, other: &Answers) -> Result<(), String> {
         ("Line", same_but_case(&one.lines, &other.lines)),
         ("List", one.list == other.list),
         ("Witness", one.witnesses == other.witnesses),
+        ("Mesh", one.meshes == other.meshes),
         ("Strike", same_but_case(&one.struck, &other.struck)),
         ("Winner", one.winners == other.winners),
         ("Join", one.joins == other.joins),
@@ -136,11 +137,12 @@ mod tests {
     fn answers_that_differ_are_found() {
         let right = || answers("text", b"01FF007E\n", &Questions::default());
         assert!(check(&right(), &right()).is_ok());
-        let all_alter: [fn(&mut Answers); 8] = [
+        let all_alter: [fn(&mut Answers); 9] = [
             |answers| answers.check = b"text 010000\n".to_vec(),
             |answers| answers.lines = b"05\n".to_vec(),
             |answers| answers.list.clear(),
             |answers| answers.witnesses = b"dead\n".to_vec(),
+            |answers| answers.meshes = b"dead\n".to_vec(),
             |answers| answers.struck[1] = b'9',
             |answers| answers.winners = b"00\n".to_vec(),
             |answers| answers.joins = b"!0900 \n".to_vec(),

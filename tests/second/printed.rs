@@ -2,6 +2,7 @@
 
 use crate::calls::{write, Reading};
 use crate::couples::Couple;
+use crate::differences::shown;
 use crate::frames::digits;
 use crate::kinds::Entry;
 use crate::prefixes::{Prefix, PREFIX_BYTES};
@@ -21,25 +22,39 @@ pub struct Answers {
     pub lines: Vec<u8>,
     pub list: Vec<u8>,
     pub witnesses: Vec<u8>,
+    pub meshes: Vec<u8>,
     pub struck: Vec<u8>,
     pub winners: Vec<u8>,
     pub joins: Vec<u8>,
     pub prefixes: Vec<u8>,
 }
 
-/// What `answers` prints of a text with this name and these questions.
+/// What `answers` prints of a text with this name and these questions. Subtracting and the mesh are to give the same of each row: else one
+/// of them is wrong here.
 pub fn answers(name: &str, text: &[u8], questions: &Questions) -> Answers {
     let reading = Reading::of(text);
     let rows = reading.check().map_or(0, |counts| counts[2]);
+    let witnesses: Vec<u8> = (0..=rows)
+        .flat_map(|row| ended(witness(reading.witness(row))))
+        .collect();
+    let meshes: Vec<u8> = (0..=rows)
+        .flat_map(|row| ended(witness(reading.mesh(row))))
+        .collect();
+    assert!(
+        witnesses == meshes,
+        "in the second implementation the mesh gives\n{}and subtracting\n{}of the text\n{}",
+        shown(&meshes),
+        shown(&witnesses),
+        shown(text)
+    );
     Answers {
         check: check(name, &reading),
         lines: (0..=rows)
             .flat_map(|row| ended(reading.line(row).to_vec()))
             .collect(),
         list: list(&reading),
-        witnesses: (0..=rows)
-            .flat_map(|row| ended(witness(reading.witness(row))))
-            .collect(),
+        witnesses,
+        meshes,
         struck: reading.strike().unwrap_or_else(refused_line),
         winners: questions
             .probes
@@ -67,6 +82,7 @@ impl Answers {
             &self.lines,
             &self.list,
             &self.witnesses,
+            &self.meshes,
             &self.struck,
             &self.winners,
             &self.joins,

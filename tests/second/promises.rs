@@ -47,7 +47,10 @@ pub fn check(
         ensure(dead.contains(&row) == least.is_none(), || {
             format!("row {row} is listed as dead, or not listed, against the probes it wins")
         })?;
-        check_witness(&old, row, least, nth_line(&before.witnesses, row))?;
+        for (call, answers) in [("Witness", &before.witnesses), ("Mesh", &before.meshes)] {
+            check_witness(&old, row, least, nth_line(answers, row))
+                .map_err(|broken| format!("{call} is wrong: {broken}"))?;
+        }
     }
     check_struck(&kept, before, after)?;
     check_winners(&old, probes, &before.winners)
@@ -88,7 +91,7 @@ fn try_every_probe(
     Ok(least)
 }
 
-/// Checks a row's witness against the least packet with which it wins a probe.
+/// Checks the answer of Witness or Mesh for a row against the least packet with which it wins a probe.
 fn check_witness(
     policy: &Policy,
     row: usize,
@@ -97,7 +100,7 @@ fn check_witness(
 ) -> Result<(), String> {
     if witness == b"dead" {
         return ensure(least.is_none(), || {
-            format!("Witness says dead of row {row}, which wins a probe")
+            format!("row {row} is called dead, and wins a probe")
         });
     }
     let packet = packet(&bytes(witness));
@@ -121,9 +124,11 @@ fn check_struck(kept: &[usize], before: &Answers, after: &Answers) -> Result<(),
     ensure(counts == expected, || {
         "Check of the struck text does not give the counts without the dead rows".into()
     })?;
-    let witnesses = (0..kept.len()).map(|row| nth_line(&after.witnesses, row));
+    let called_dead = |answers: &[u8]| (0..kept.len()).any(|row| nth_line(answers, row) == b"dead");
     ensure(
-        dead_rows(&after.list).is_empty() && !witnesses.into_iter().any(|line| line == b"dead"),
+        dead_rows(&after.list).is_empty()
+            && !called_dead(&after.witnesses)
+            && !called_dead(&after.meshes),
         || "a row of the struck text is called dead".into(),
     )?;
     let [old, new] = [before, after].map(|answers| filter_entries(&answers.list));
@@ -382,13 +387,19 @@ mod tests {
 
     #[test]
     fn wrong_answers_break_them() {
-        let all_alter: [fn(&mut Answers, &mut Answers); 13] = [
+        let all_alter: [fn(&mut Answers, &mut Answers); 19] = [
             |before, _| before.list.clear(),
             |before, _| before.list.extend(b"0114FF\n"),
             |before, _| before.witnesses[..26].copy_from_slice(b"00000000000000000000000100"),
             |before, _| before.witnesses[27..53].copy_from_slice(b"00000000000000000000000000"),
             |before, _| before.witnesses = b"dead\ndead\ndead\n".to_vec(),
             |before, _| before.witnesses.splice(54..58, [b'0'; 26]).for_each(drop),
+            |before, _| before.meshes[..26].copy_from_slice(b"00000000000000000000000100"),
+            |before, _| before.meshes[27..53].copy_from_slice(b"00000000000000000000000000"),
+            |before, _| before.meshes = b"dead\ndead\ndead\n".to_vec(),
+            |before, _| before.meshes.splice(54..58, [b'0'; 26]).for_each(drop),
+            |_, after| after.witnesses[..26].copy_from_slice(b"dead\n000000000000000000000"),
+            |_, after| after.meshes[..26].copy_from_slice(b"dead\n000000000000000000000"),
             |before, _| before.struck = TEXT.as_bytes().to_vec(),
             |before, _| before.struck.truncate(before.struck.len() - 71),
             |before, _| before.winners = b"00\n".to_vec(),

@@ -1,4 +1,4 @@
-//! Document 01's table T and its edges, the stored examples and vectors, the edges of Join and Prefixes, and demand 3 on seeded
+//! Document 01's table T and its edges, the stored examples and vectors, the edges of Join, Prefixes and Mesh, and demand 3 on seeded
 //! tables; and all 256 bytes as digits, read by the static library.
 
 use crate::added;
@@ -102,6 +102,7 @@ fn answers_on_t() {
         answers.witnesses,
         b"00000000000000000000000000\n00000000000000000000800000\ndead\n!0900\n"
     );
+    assert_eq!(answers.meshes, answers.witnesses);
     assert_eq!(answers.struck, text(&table_t()[..13]));
     assert_eq!(answers.winners, b"01\nnone\n!0900\n!0A00\n");
     assert_eq!(
@@ -118,7 +119,7 @@ fn answers_on_a_refused_text() {
     let printed = printed::answers("empty", b"", &questions.unwrap()).all();
     assert_eq!(
         printed,
-        b"empty !0301\n\n!0301\n!0301\n!0301\n!0301\n!0301 ...\n!0301 \n!0301 2E2E2E\n!0301 \n"
+        b"empty !0301\n\n!0301\n!0301\n!0301\n!0301\n!0301\n!0301 ...\n!0301 \n!0301 2E2E2E\n!0301 \n"
     );
 }
 
@@ -166,6 +167,7 @@ fn small_letters_are_read_as_capitals() {
         [&small, &text(&table_t())].map(|text| printed::answers("t", text, &Questions::default()));
     assert_eq!(of_small.list, of_capitals.list);
     assert_eq!(of_small.witnesses, of_capitals.witnesses);
+    assert_eq!(of_small.meshes, of_capitals.meshes);
     assert_eq!(of_small.struck, of_capitals.struck.to_ascii_lowercase());
     assert_eq!(of_small.lines, of_capitals.lines.to_ascii_lowercase());
 }
@@ -494,6 +496,163 @@ fn refusals_of_prefixes_in_their_order() {
     rows.resize(11 + 64, rows[13].clone());
     assert_eq!(prefixes_in(&text(&rows), 63, 1, 5), "01 0000000000");
     assert_eq!(prefixes_in(&text(&rows), 64, 1, 5), "!0900 2E2E2E2E2E");
+}
+
+/// What `answers` prints of Mesh for the last of these rows, of which each has its ends and box. The entities are a root 00 with 01 and,
+/// side by side below that, 02 and 03, and a root 04.
+fn mesh_of(rows: &[(&str, &str)]) -> String {
+    let entities = ["01FF007E", "01000200", "01010300", "01010300", "01FF007E"];
+    let row = |&(ends, selector): &(&str, &str)| format!("0500{ends}03030303{selector}00");
+    let rows: Vec<String> = rows.iter().map(row).collect();
+    let rows: Vec<&str> = rows.iter().map(String::as_str).collect();
+    let text = text(&frames(&entities, &rows));
+    let printed = String::from_utf8(printed::answers("text", &text, &Questions::default()).meshes);
+    let printed = printed.unwrap();
+    let mut lines = printed.lines().skip(rows.len() - 1);
+    let last = lines.next().unwrap().to_string();
+    assert_eq!((lines.next(), lines.next()), (Some("!0900"), None));
+    last
+}
+
+/// The box of all packets but for these destination ports, the protocols 00 to 0F and no others.
+fn ports(ports: &str) -> String {
+    format!("{}{ports}000F", &ALL_PACKETS[..40])
+}
+
+/// The packet of this destination port and protocol, all else 0.
+fn of_port(port: &str, protocol: &str) -> String {
+    format!("{}{port}{protocol}", "0".repeat(20))
+}
+
+#[test]
+fn mesh_of_one_field() {
+    for (earlier, own, expected) in [
+        (&[][..], "00050009", Some("0005")),
+        (&["00000006"], "00050009", Some("0007")),
+        (&["00000008"], "00050009", Some("0009")),
+        (&["00060009"], "00050009", Some("0005")),
+        (&["00050008"], "00050009", Some("0009")),
+        (&["00050005"], "00050009", Some("0006")),
+        (&["00000004", "000A000F"], "00050009", Some("0005")),
+        (&["00050006", "00080009"], "00050009", Some("0007")),
+        (&["00080009", "00050006", "00070007"], "00050009", None),
+        (&["00080009", "00050007"], "00050009", None),
+        (&["00050009"], "00050009", None),
+        (&["00050008", "00050008"], "00050009", Some("0009")),
+        (&["00050009", "00050009"], "00050009", None),
+        (&["0000FFFF"], "00050009", None),
+        (&["00000004", "00060009"], "00050005", Some("0005")),
+        (&["00040005"], "00050005", None),
+        (&["0000FFFE"], "0000FFFF", Some("FFFF")),
+        (&["0000FFFE", "FFFFFFFF"], "0000FFFF", None),
+        (&["0001FFFF"], "0000FFFF", Some("0000")),
+    ] {
+        let selectors: Vec<String> = earlier.iter().chain([&own]).map(|p| ports(p)).collect();
+        let rows: Vec<(&str, &str)> = selectors.iter().map(|s| ("0104", &s[..])).collect();
+        let expected = expected.map_or("dead".to_string(), |port| of_port(port, "00"));
+        assert_eq!(mesh_of(&rows), expected, "{earlier:?} before {own}");
+    }
+}
+
+#[test]
+fn mesh_of_two_fields() {
+    let with = |ports: &str, protocols: &str| format!("{}{ports}{protocols}", &ALL_PACKETS[..40]);
+    let own = with("00000009", "000F");
+    for (earlier, expected) in [
+        (
+            [with("00000000", "000E"), with("00010009", "010F")],
+            of_port("0000", "0F"),
+        ),
+        (
+            [with("00000000", "000F"), with("00010009", "010F")],
+            of_port("0001", "00"),
+        ),
+        (
+            [with("00000004", "0007"), with("00000004", "080F")],
+            of_port("0005", "00"),
+        ),
+        (
+            [with("00000005", "0007"), with("00000009", "080F")],
+            of_port("0006", "00"),
+        ),
+        (
+            [with("00000009", "0007"), with("00000005", "080F")],
+            of_port("0006", "08"),
+        ),
+        (
+            [with("00000009", "0007"), with("00000009", "080F")],
+            "dead".to_string(),
+        ),
+    ] {
+        let rows = [&earlier[0], &earlier[1], &own].map(|selector| ("0104", &selector[..]));
+        assert_eq!(mesh_of(&rows), expected, "{earlier:?}");
+    }
+}
+
+#[test]
+fn mesh_of_all_addresses() {
+    let rest = &ALL_PACKETS[32..];
+    let all = "00000000FFFFFFFF";
+    let at = |sources: &str, destinations: &str| format!("{sources}{destinations}{rest}");
+    let below = at("00000000FFFFFFFE", all);
+    let last = at("FFFFFFFFFFFFFFFF", "00000000FFFFFFFE");
+    let own = at(all, all);
+    let packet = |addresses: &str| format!("{addresses}{}", "0".repeat(10));
+    for (earlier, expected) in [
+        (vec![&below], packet("FFFFFFFF00000000")),
+        (vec![&last], packet("0000000000000000")),
+        (vec![&below, &last], packet("FFFFFFFFFFFFFFFF")),
+        (vec![&last, &below, &own], "dead".to_string()),
+    ] {
+        let rows: Vec<(&str, &str)> = earlier
+            .into_iter()
+            .chain([&own])
+            .map(|s| ("0104", &s[..]))
+            .collect();
+        assert_eq!(mesh_of(&rows), expected);
+    }
+}
+
+#[test]
+fn mesh_of_rows_that_are_above_alone() {
+    let half = ports("00000007");
+    let own = ports("0000000F");
+    let [free, hidden] = ["0000", "0008"].map(|port| of_port(port, "00"));
+    for (ends, own_ends, expected) in [
+        ("0204", "0204", &hidden),
+        ("0104", "0204", &hidden),
+        ("0004", "0204", &hidden),
+        ("0204", "0104", &free),
+        ("0304", "0204", &free),
+        ("0404", "0204", &free),
+        ("0402", "0402", &hidden),
+        ("0401", "0402", &hidden),
+        ("0403", "0402", &free),
+        ("0402", "0401", &free),
+        ("0001", "0202", &hidden),
+        ("0203", "0202", &free),
+    ] {
+        let rows = [(ends, &half[..]), (own_ends, &own)];
+        assert_eq!(&mesh_of(&rows), expected, "{ends} before {own_ends}");
+    }
+}
+
+#[test]
+fn refusals_of_mesh_are_those_of_witness() {
+    let whole = text(&table_t());
+    let nobody = |number, line| Err(Refusal { number, line });
+    for (text, row, expected) in [
+        (&whole[..], 3, nobody(9, 0)),
+        (&whole, usize::MAX, nobody(9, 0)),
+        (&whole[..whole.len() - 1], 0, nobody(1, 14)),
+        (&whole[..whole.len() - 1], 3, nobody(1, 14)),
+        (&text(&table_t()[..11]), 0, nobody(9, 0)),
+        (b"", 0, nobody(3, 1)),
+    ] {
+        let reading = Reading::of(text);
+        assert_eq!(reading.mesh(row), expected);
+        assert_eq!(reading.witness(row), expected);
+    }
 }
 
 #[test]

@@ -6,4 +6,5 @@ pub mod Promises
 pub mod JoinPromises
 pub mod PrefixPromises
 pub mod AddedRowPromises
+pub mod MeshPromises
 pub mod Examples

@@ -1,5 +1,5 @@
 -- Demands 1 to 3, and document 02's requests [1] and [7], on the calls, for every text. Numbers of the documents stand here as they print them. (Demand 2
--- on relations is in RelationPromises, the other requests in JoinPromises, PrefixPromises and AddedRowPromises.)
+-- on relations is in RelationPromises, the other requests in JoinPromises, PrefixPromises, AddedRowPromises and MeshPromises.)
 -- Assumes nothing.
 use Prim.Native.Nat.{ℕ, _+_, _-_, _*_, _≤_, _<_}
 use mathlib.Core.Path.{_≡_}
@@ -24,7 +24,7 @@ use Rattle.base.specs.Answers.{returned, refusedBy, callOn}
 use Rattle.reader.specs.States.{parse}
 use Rattle.reader.specs.Rules.{KeepsRules}
 use Rattle.reader.specs.Faults.{FaultAt, FirstFault}
-use Rattle.search.specs.Least.{_≤ₚ_}
+use Rattle.covers.specs.Least.{_≤ₚ_}
 use Rattle.kinds.specs.Meanings.{InternalLoop, OutOfPlace, NonEnforceable, Inadequate, Shadowing, Redundancy, Exception, Correlation, Inclusion, Affinity, Contradiction, Superfluous, Skewed, Filtered, LayerTwo, Asymmetric, Cyclic, Monitorable, AlternativePath, FilterShadowing, FilterRedundancy}
 use Rattle.kinds.specs.Kinds.{Anomaly}
 use Rattle.kinds.specs.Entries.{Entry, entry, entries, Ascending}

@@ -6,7 +6,7 @@ use Rattle.base.specs.declared.Written.{Written}
 use Rattle.base.specs.declared.Written.the-variants.{Count as Whole, Short}
 use Rattle.policy.specs.Views.{packetOf}
 use Rattle.frames.specs.Refusals.{shortOutput}
-use Rattle.search.specs.Search.{SearchResult}
+use Rattle.covers.specs.Least.{SearchResult}
 use Rattle.analyser.specs.Calls.{TableCounts, saysDead, givesPacket, RowOrNobody, winningRow, nobodyWins}
 use Rattle.analyser.specs.declared.Checked.{Checked}
 use Rattle.analyser.specs.declared.Checked.the-variants.{Counts, Refused as CheckRefused}

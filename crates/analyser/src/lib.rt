@@ -2,11 +2,13 @@
 // conditions that a call asks follow in the documents' order: 9, 10, 11, 12, 8.
 
 ghost use mathlib.Core.Path.{_≡_};
-ghost use Rattle.base.specs.Answers.{refusedBy};
+ghost use Rattle.base.specs.Answers.{returned, refusedBy};
+ghost use Rattle.covers.specs.Views.{resultOf};
 ghost use Rattle.policy.specs.Views.{packetOf};
-ghost use Rattle.analyser.specs.Calls.{checkOf, linePart, witnessOf, winnerOf, listOf, listWritten, packed, strikeOf, strikeWritten, joinOf, joinWritten, prefixesOf, prefixesWritten};
+ghost use Rattle.analyser.specs.Calls.{checkOf, linePart, witnessOf, meshOf, winnerOf, listOf, listWritten, packed, strikeOf, strikeWritten, joinOf, joinWritten, prefixesOf, prefixesWritten};
 ghost use Rattle.analyser.specs.Views.{checkAnswer, witnessAnswer, winnerAnswer, countAnswer, roomAnswer};
 use base::Written;
+use covers::Found;
 use frames::refusals;
 use frames::row;
 use frames::widths::ADDRESS;
@@ -15,7 +17,6 @@ use policy::table;
 use relations::group;
 use relations::group::Outcome;
 use relations::group::Probe;
-use search::Found;
 
 // What Check answers: the counts of entities, filters and rows, or a refusal.
 pub enum Checked {
@@ -30,7 +31,7 @@ pub enum Checked {
     },
 }
 
-// What Witness answers: that the row is dead, its least packet, or a refusal.
+// What Witness and Mesh answer: that the row is dead, its least packet, or a refusal.
 pub enum Witness {
     Dead,
     Packet(Packet),
@@ -83,6 +84,16 @@ pub fn line(text: &[u8], k: usize) -> &[u8]
     reader::nth_line(text, before + k)
 }
 
+// What is answered of a row: its packet, or that it is dead.
+fn tell(found: Found) -> Witness
+    ensures { λ r. ⌜ witnessAnswer r ≡ returned (resultOf found) ⌝ }
+{
+    match found {
+        Found::Packet(p) => Witness::Packet(p),
+        Found::Nothing => Witness::Dead,
+    }
+}
+
 // Witness: that row k is dead, or the least packet for which it wins the probe with its own source and destination.
 pub fn witness_of(text: &[u8], k: usize) -> Witness
     ensures { λ r. ⌜ witnessAnswer r ≡ witnessOf (now (text .entry)) k ⌝ }
@@ -100,10 +111,27 @@ pub fn witness_of(text: &[u8], k: usize) -> Witness
             line: 0,
         };
     }
-    match verdicts::judge(&r.table.parents, &r.table.heads, &r.table.bounds, k) {
-        Found::Packet(p) => Witness::Packet(p),
-        Found::Nothing => Witness::Dead,
+    tell(verdicts::judge(&r.table.parents, &r.table.heads, &r.table.bounds, k))
+}
+
+// Mesh: what Witness answers, by another method: the least packets of the cells into which the boxes that could cover row k cut its own.
+pub fn mesh_of(text: &[u8], k: usize) -> Witness
+    ensures { λ r. ⌜ witnessAnswer r ≡ meshOf (now (text .entry)) k ⌝ }
+{
+    let r = reader::read(text);
+    if r.number != 0 {
+        return Witness::Refused {
+            number: r.number,
+            line: r.line,
+        };
     }
+    if r.table.rows <= k {
+        return Witness::Refused {
+            number: refusals::NO_SUCH_ROW,
+            line: 0,
+        };
+    }
+    tell(mesh::judge(&r.table.parents, &r.table.heads, &r.table.bounds, k))
 }
 
 // What is answered of a result that is written where there is room: how many it is, or that the output is shorter.

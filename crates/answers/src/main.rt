@@ -6,6 +6,7 @@
 // - Line's answer for each row, and for one number more
 // - List's entries, six digits each
 // - Witness's answer for each row, and for one number more: dead, or the packet's digits
+// - Mesh's answer for the same numbers, in the same form
 // - Strike's text
 // - Winner's answer for each probe: the row's two digits, or none
 // - Join's answer for each couple: the length's two digits, or the refusal; and all of the output, which had a . at each place before the call
@@ -41,6 +42,13 @@ const QUESTION: usize = COUPLE_DIGITS + 1;
 const JOINED: usize = 255;
 
 const PREFIXES: usize = 512;
+
+// A call that is asked of each row.
+enum RowCall {
+    Line,
+    Witness,
+    Mesh,
+}
 
 // A call that is asked questions.
 enum Call {
@@ -126,27 +134,28 @@ fn put_packet(p: Packet) {
     put_text(b"\n");
 }
 
-fn put_witness(text: &[u8], k: usize) {
-    match analyser::witness_of(text, k) {
+// Witness's answer, or Mesh's.
+fn put_witness(answer: Witness) {
+    match answer {
         Witness::Dead => put_text(b"dead\n"),
         Witness::Packet(p) => put_packet(p),
         Witness::Refused { number, line } => put_refusal(number, line),
     }
 }
 
-// Witness's answer for row k, or Line's.
-fn put_row(text: &[u8], k: usize, witness: bool) {
-    if witness {
-        put_witness(text, k);
-    } else {
-        put_line(text, k);
+// The call's answer for row k.
+fn put_row(text: &[u8], k: usize, call: RowCall) {
+    match call {
+        RowCall::Line => put_line(text, k),
+        RowCall::Witness => put_witness(analyser::witness_of(text, k)),
+        RowCall::Mesh => put_witness(analyser::mesh_of(text, k)),
     }
 }
 
 // The same for each row, and for one number more.
-fn put_rows(text: &[u8], rows: usize, witness: bool) {
+fn put_rows(text: &[u8], rows: usize, call: RowCall) {
     for k in 0..=rows {
-        put_row(text, k, witness);
+        put_row(text, k, call);
     }
 }
 
@@ -264,9 +273,10 @@ fn put_questions(text: &[u8], questions: &[u8], call: Call) {
 
 fn answer(text: &[u8], questions: &[u8]) {
     let rows = put_check(text);
-    put_rows(text, rows, false);
+    put_rows(text, rows, RowCall::Line);
     put_list(text);
-    put_rows(text, rows, true);
+    put_rows(text, rows, RowCall::Witness);
+    put_rows(text, rows, RowCall::Mesh);
     put_strike(text);
     put_questions(text, questions, Call::Winner);
     put_questions(text, questions, Call::Join);

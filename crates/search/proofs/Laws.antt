@@ -1,6 +1,6 @@
 -- The laws that crates above cite, and those of the search's own functions.
 pub mod Right
-pub mod Sets
+pub mod Reach
 pub mod Kept
 pub mod Walks
 pub mod Agrees

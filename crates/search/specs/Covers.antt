@@ -1,28 +1,21 @@
--- Covers: what a part of the search that finds nothing has learnt. A set of boxes is a number: bit k is 1 where the box at place k of the list
--- is in it.
+-- Covers: what a part of the search that finds nothing has learnt, a set of boxes.
 -- Assumes nothing.
-use Prim.Native.Nat.{ℕ, _+_, _^_, _≤_, _<_}
+use Prim.Native.Nat.{ℕ, _+_, _^_, _≤_}
 use mathlib.Core.Path.{_≡_}
-use mathlib.Core.Bool.{true, _||_}
+use mathlib.Core.Bool.{_||_}
 use mathlib.Core.Logic.{_⊎_}
 use mathlib.Core.List.{List, [], _∷_, map}
 use lib.Bits.{bitAnd}
 use lib.Dec.{eqb, ltb}
 use lib.ListN.{getD}
 use Rattle.base.specs.Truths.{pick}
-use Rattle.base.specs.Bits.{marked}
-use Rattle.policy.specs.Limits.{mostSelectors}
-use Rattle.policy.specs.Model.{Range, Selector, Packet}
+use Rattle.policy.specs.Model.{Selector, Packet}
 use Rattle.policy.specs.Views.{rangeIn}
-use Rattle.relations.specs.Ranges.{Within}
 use Rattle.relations.specs.Selectors.{Holds}
+use Rattle.covers.specs.Sets.{In, fieldOf}
 use Rattle.search.specs.Search.{Candidate, value, last}
 
 -- ---- what a cover is
-
--- The box at place k is in the set.
-abbrev pub In : ℕ → ℕ → Type 0
-In set k = marked set k ≡ true
 
 -- One of the boxes that are chosen has the packet.
 pub record HeldBy (box : ℕ → Selector) (chosen : ℕ → Type 0) (q : Packet) : Type 0 where
@@ -36,25 +29,12 @@ Covers box s set = (q : Packet) → Holds s q → HeldBy box (In set) q
 
 -- ---- the boxes of a set
 
--- They are selectors, by their numbers.
-abbrev pub Numbered : (at : List ℕ) (set : ℕ) → Type 0
-Numbered at set = (k : ℕ) → In set k → getD at k 0 < mostSelectors
-
--- The fields fs of the box at place k, in their order, its field f, and the high of that.
+-- The fields fs of the box at place k, in their order, and the high of its field f.
 abbrev pub boxOf : (bounds at fs : List ℕ) (k : ℕ) → Selector
 boxOf bounds at fs k = map (rangeIn bounds (getD at k 0)) fs
 
-abbrev pub fieldOf : (bounds at : List ℕ) (f k : ℕ) → Range
-fieldOf bounds at f k = rangeIn bounds (getD at k 0) f
-
 abbrev pub highs : (bounds at : List ℕ) (f k : ℕ) → ℕ
 highs bounds at f k = fieldOf bounds at f k .high
-
--- Of the boxes P those whose field holds v are Q.
-pub record Narrowed (field : ℕ → Range) (P : ℕ → Type 0) (v : ℕ) (Q : ℕ → Type 0) : Type 0 where
-  pub part : (k : ℕ) → Q k → P k
-  pub holds : (k : ℕ) → Q k → Within (field k) v
-  pub all : (k : ℕ) → P k → Within (field k) v → Q k
 
 -- ---- how far a cover reaches
 

@@ -6,9 +6,10 @@ use mathlib.Core.List.{List, [], _∷_}
 use lib.Dec.{leb, ltb}
 use lib.ListN.{getD, drop}
 use Rattle.base.specs.Truths.{pick}
-use Rattle.policy.specs.Model.{Range, Selector, Packet, noRange}
+use Rattle.policy.specs.Model.{Range, Selector, noRange}
 use Rattle.relations.specs.Ranges.{within}
 use Rattle.base.specs.Lists.{passing}
+use Rattle.covers.specs.Least.{SearchResult, found, none}
 
 -- A box's first field.
 abbrev pub first : Selector → Range
@@ -34,10 +35,6 @@ pub data Candidate : Type 0 where
 -- The candidate after v: one past the least high of a box, above v and at most the row's high.
 abbrev pub next : ℕ → ℕ → List Selector → Candidate
 next v high bs = pick (ltb (least v high bs) high) (value (least v high bs + 1)) last
-
-pub data SearchResult : Type 0 where
-  found : Packet → SearchResult
-  none : SearchResult
 
 -- A packet found with v in this field, or else what comes later.
 abbrev pub or-later : ℕ → SearchResult → SearchResult → SearchResult

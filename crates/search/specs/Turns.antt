@@ -4,7 +4,7 @@ use Prim.Native.Nat.{ℕ}
 use mathlib.Core.Path.{_≡_}
 use mathlib.Core.List.{List, _++_}
 use lib.ListN.{take, drop}
-use Rattle.search.specs.Search.{SearchResult, found, none}
+use Rattle.covers.specs.Least.{SearchResult, found, none}
 use Rattle.search.specs.Views.{valuesOf}
 use Rattle.search.specs.declared.walk.Ended.{Ended}
 use Rattle.search.specs.declared.walk.Ended.the-variants.{Free, Covered, Stopped}

@@ -1,48 +1,18 @@
 -- What the code's structs stand for.
 -- Assumes nothing.
-use Prim.Native.Nat.{ℕ, _≤_, _<_}
-use mathlib.Core.Path.{_≡_}
-use mathlib.Core.List.{List, [], _∷_, map}
-use lib.ListN.{getD, take, drop, length}
-use Rattle.policy.specs.Limits.{mostRows, mostSelectors}
-use Rattle.policy.specs.Model.{Selector, Packet as PacketModel}
-use Rattle.policy.specs.Views.{value as valueOf, packetOf, selectorIn}
-use Rattle.search.specs.Search.{Candidate, value, last, SearchResult, found, none}
-use Rattle.search.specs.declared.Boxes.{Boxes}
+use mathlib.Core.List.{[], _∷_}
+use Rattle.policy.specs.Model.{Packet}
+use Rattle.policy.specs.Views.{value as valueOf}
+use Rattle.search.specs.Search.{Candidate, value, last}
 use Rattle.search.specs.declared.Next.{Next}
 use Rattle.search.specs.declared.Next.the-variants.{Value, Last}
 use Rattle.search.specs.declared.walk.Values.{Values}
-use Rattle.search.specs.declared.Found.{Found}
-use Rattle.search.specs.declared.Found.the-variants.{Packet, Nothing}
 
--- What is left of the selector at k past its first f fields.
-abbrev pub boxAt : List ℕ → ℕ → ℕ → Selector
-boxAt bounds f k = drop f (selectorIn bounds k)
-
--- The listed boxes, past their first f fields.
-abbrev pub boxesAt : List ℕ → Boxes → ℕ → List Selector
-boxesAt bounds a f = map (boxAt bounds f) (take (a .count) (a .at))
-
--- The numbers are selectors', and there is room for what is counted.
-pub record BoxNumbers (a : Boxes) : Type 0 where
-  pub long : length (a .at) ≡ mostRows
-  pub few : a .count ≤ mostRows
-  pub within : (k : ℕ) → k < a .count → getD (a .at) k 0 < mostSelectors
-
--- They are these boxes, past their first f fields.
-pub record BoxesAre (bounds : List ℕ) (a : Boxes) (f : ℕ) (bs : List Selector) : Type 0 where
-  pub numbers : BoxNumbers a
-  pub same : boxesAt bounds a f ≡ bs
-
--- What the answers of the code stand for.
+-- What the candidates of the code stand for.
 abbrev pub candidateOf : Next → Candidate
 candidateOf (Value n) = value (valueOf n)
 candidateOf Last = last
 
-abbrev pub resultOf : Found → SearchResult
-resultOf (Packet p) = found (packetOf p)
-resultOf Nothing = none
-
 -- The values of a walk's fields, in the order of the walk.
-abbrev pub valuesOf : Values → PacketModel
+abbrev pub valuesOf : Values → Packet
 valuesOf v = valueOf (v .first) ∷ valueOf (v .second) ∷ valueOf (v .third) ∷ valueOf (v .fourth) ∷ valueOf (v .fifth) ∷ []

@@ -1,6 +1,6 @@
 // The least packet of a row that no box claims. The bounds of all selectors are lent, and left unchanged; boxes are told by their numbers.
 pub mod kept;
-pub mod set;
+pub mod reach;
 pub mod walk;
 
 ghost use mathlib.Core.Path.{_≡_};
@@ -8,32 +8,23 @@ ghost use Prim.Native.Nat.{_<_};
 ghost use Rattle.policy.specs.Limits.{mostSelectors};
 ghost use Rattle.policy.specs.Views.{packetOf, selectorIn};
 ghost use Rattle.base.specs.Truths.{Decides};
-ghost use Rattle.search.specs.Search.{none, search as searched};
-ghost use Rattle.search.specs.Views.{boxesAt, BoxNumbers, resultOf, valuesOf};
+ghost use Rattle.covers.specs.Least.{none};
+ghost use Rattle.covers.specs.Views.{boxesAt, BoxNumbers, resultOf};
+ghost use Rattle.search.specs.Search.{search as searched};
+ghost use Rattle.search.specs.Views.{valuesOf};
 use crate::walk::Ended;
 use crate::walk::Values;
+use covers::Boxes;
+use covers::Found;
 use policy::limits::FIELDS;
-use policy::limits::ROWS;
 use policy::number::Number;
 use policy::selector::Packet;
 use policy::table::Bounds;
-
-// Boxes, by the numbers of their selectors.
-pub struct Boxes {
-    pub at: [u8; ROWS],
-    pub count: usize,
-}
 
 // The candidate after another in a field.
 pub enum Next {
     Value(Number),
     Last,
-}
-
-// What the search finds: the least packet that no box has, or that each packet is in one.
-pub enum Found {
-    Packet(Packet),
-    Nothing,
 }
 
 // The packet of these values, of a walk that begins with the first field.

@@ -5,15 +5,17 @@ ghost use mathlib.Core.List.{map};
 ghost use Prim.Native.Nat.{_-_, _<_};
 ghost use Rattle.policy.specs.Limits.{fieldCount, mostSelectors};
 ghost use Rattle.policy.specs.Views.{value, selectorIn};
+ghost use Rattle.covers.specs.Views.{boxesAt, BoxNumbers};
 ghost use Rattle.search.specs.Search.{search as searched};
-ghost use Rattle.search.specs.Views.{boxesAt, BoxNumbers, candidateOf};
+ghost use Rattle.search.specs.Views.{candidateOf};
 ghost use Rattle.search.specs.Covers.{opening as openingOf};
 ghost use Rattle.search.specs.Turns.{turned, Tells};
-use crate::Boxes;
 use crate::Next;
 use crate::kept;
 use crate::kept::COVERS;
-use crate::set;
+use crate::reach;
+use covers::Boxes;
+use covers::set;
 use policy::limits::FIELDS;
 use policy::number::Number;
 use policy::table;
@@ -125,23 +127,23 @@ pub fn walk(bounds: &Bounds, row: usize, cover: Boxes, lead: usize, limit: u64) 
                                 fifth: v4,
                             });
                         }
-                        let k5 = set::furthest(bounds, &at, f4, a5);
+                        let k5 = reach::furthest(bounds, &at, f4, a5);
                         k4 = k4 | k5;
-                        n4 = set::following(bounds, &at, f4, k5, r4.high);
+                        n4 = reach::following(bounds, &at, f4, k5, r4.high);
                     }
                     kept::keep(&mut kept4, k4);
                     k3 = k3 | k4;
-                    n3 = set::following(bounds, &at, f3, k4, r3.high);
+                    n3 = reach::following(bounds, &at, f3, k4, r3.high);
                 }
                 kept::keep(&mut kept3, k3);
                 k2 = k2 | k3;
-                n2 = set::following(bounds, &at, f2, k3, r2.high);
+                n2 = reach::following(bounds, &at, f2, k3, r2.high);
             }
             kept::keep(&mut kept2, k2);
             k1 = k1 | k2;
-            n1 = set::following(bounds, &at, f1, k2, r1.high);
+            n1 = reach::following(bounds, &at, f1, k2, r1.high);
         }
         kept::keep(&mut kept1, k1);
-        n0 = set::following(bounds, &at, lead, k1, r0.high);
+        n0 = reach::following(bounds, &at, lead, k1, r0.high);
     }
 }

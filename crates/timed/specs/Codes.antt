@@ -2,7 +2,7 @@
 -- Assumes nothing.
 use Prim.Native.Nat.{ℕ}
 use Rattle.base.specs.Answers.{Answer, returned, refusedBy}
-use Rattle.search.specs.Search.{SearchResult, found, none}
+use Rattle.covers.specs.Least.{SearchResult, found, none}
 use Rattle.analyser.specs.Calls.{TableCounts}
 
 -- 0 for a text that is accepted, else 1.

@@ -1,6 +1,7 @@
 // What the benchmark calls: a text and rows' numbers in, a number out.
 ghost use mathlib.Core.Path.{_≡_};
-ghost use Rattle.analyser.specs.Calls.{checkOf, witnessOf, packed, strikeOf, strikeWritten, joinOf, joinWritten, prefixesOf, prefixesWritten};
+ghost use Rattle.analyser.specs.Calls.{checkOf, witnessOf, meshOf, packed, strikeOf, strikeWritten, joinOf, joinWritten, prefixesOf, prefixesWritten};
+ghost use Rattle.analyser.specs.Views.{witnessAnswer};
 ghost use Rattle.timed.specs.Codes.{checkCode, witnessCode};
 use analyser::Checked;
 use analyser::Witness;
@@ -20,16 +21,31 @@ pub extern "C" fn timed_check(text: &[u8]) -> u64
     }
 }
 
-// 0 if row k has a witness, 1 if it is dead, 2 if there is a refusal.
-#[no_mangle]
-pub extern "C" fn timed_witness(text: &[u8], k: usize) -> u64
-    ensures { λ n. ⌜ n ≡ witnessCode (witnessOf (now (text .entry)) k) ⌝ }
+// 0 for a packet, 1 for a dead row, 2 for a refusal.
+fn code(answer: Witness) -> u64
+    ensures { λ n. ⌜ n ≡ witnessCode (witnessAnswer answer) ⌝ }
 {
-    match analyser::witness_of(text, k) {
+    match answer {
         Witness::Packet(_) => 0,
         Witness::Dead => 1,
         Witness::Refused { number: _, line: _ } => 2,
     }
+}
+
+// Witness's answer of row k as a number.
+#[no_mangle]
+pub extern "C" fn timed_witness(text: &[u8], k: usize) -> u64
+    ensures { λ n. ⌜ n ≡ witnessCode (witnessOf (now (text .entry)) k) ⌝ }
+{
+    code(analyser::witness_of(text, k))
+}
+
+// Mesh's answer of row k as a number.
+#[no_mangle]
+pub extern "C" fn timed_mesh(text: &[u8], k: usize) -> u64
+    ensures { λ n. ⌜ n ≡ witnessCode (meshOf (now (text .entry)) k) ⌝ }
+{
+    code(analyser::mesh_of(text, k))
 }
 
 // The length of the struck text, or the refusal as one number. Writes what Strike writes.

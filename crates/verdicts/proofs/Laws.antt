@@ -1,5 +1,4 @@
 -- The laws that crates above cite.
-pub mod Covers
 pub mod Verdicts
 pub mod Tables
 pub mod Extended

@@ -8,8 +8,7 @@ use lib.ListN.{length}
 use Rattle.policy.specs.Model.{Packet, Row, Table, extended, rowAt, parentOf}
 use Rattle.relations.specs.Groups.{Wins, Dead, winnerFrom}
 use Rattle.relations.specs.declared.group.Outcome.the-variants.{Won}
-use Rattle.search.specs.Search.{found, none}
-use Rattle.search.specs.Least.{_≤ₚ_}
+use Rattle.covers.specs.Least.{found, none, _≤ₚ_}
 use Rattle.verdicts.specs.Verdicts.{verdictOn}
 
 pub record Verdicts (t : Table) (i : ℕ) : Type 0 where

@@ -1,25 +1,14 @@
--- Document 01, "Witness, of a row: either dead, or the least packet": the boxes that cover a row, and the verdict on it.
+-- Document 01, "Witness, of a row: either dead, or the least packet": the verdict on a row.
 -- Assumes nothing.
-use Prim.Native.Nat.{ℕ, _<_}
-use mathlib.Core.Bool.{Bool, true, false, _&&_}
+use Prim.Native.Nat.{ℕ}
+use mathlib.Core.Bool.{Bool, true, false}
 use mathlib.Core.List.{List}
 use lib.ListN.{take}
-use Rattle.policy.specs.Model.{Selector, Row, Table, rowAt, parentOf}
-use Rattle.policy.specs.Limits.{mostRows}
+use Rattle.policy.specs.Model.{Row, Table, rowAt, parentOf}
 use Rattle.policy.specs.Views.{parentIn, rowIn, rowsIn}
-use Rattle.relations.specs.Entities.{TwoEntities, atOrAbove}
-use Rattle.relations.specs.Groups.{sameGroup}
-use Rattle.base.specs.Lists.{passing}
-use Rattle.search.specs.Search.{SearchResult, found, none, search}
-
--- The row q is of r's group, and ⪰ it in source and destination.
-unfoldable pub covers : (ℕ → ℕ) → Row → Row → Bool
-covers up r q =
-    sameGroup q r && (atOrAbove up (q .source) (r .source) && atOrAbove up (q .destination) (r .destination))
-
--- The cover of r: the selectors of the rows before it that are of its group and ⪰ it in source and destination.
-unfoldable pub coverOf : (ℕ → ℕ) → Row → List Row → List Selector
-coverOf up r before = passing (covers up r) (λ q. q .selector) before
+use Rattle.covers.specs.Least.{SearchResult, found, none}
+use Rattle.covers.specs.Covers.{coverOf}
+use Rattle.search.specs.Search.{search}
 
 -- The least packet of r that its cover leaves, after the rows before it.
 unfoldable pub verdictAfter : (ℕ → ℕ) → List Row → Row → SearchResult
@@ -34,17 +23,6 @@ abbrev pub isNone : SearchResult → Bool
 isNone none = true
 isNone (found p) = false
 
--- ---- the runs that a table lends
-
--- What is asked of them, and of a row's number.
-pub record Asked (parents heads bounds : List ℕ) (i : ℕ) : Type 0 where
-  pub row : i < mostRows
-  pub ends : TwoEntities parents (rowIn heads bounds i .source) (rowIn heads bounds i .destination)
-
--- The cover of row i.
-abbrev pub coverIn : List ℕ → List ℕ → List ℕ → ℕ → List Selector
-coverIn parents heads bounds i = coverOf (parentIn parents) (rowIn heads bounds i) (rowsIn heads bounds i)
-
--- The verdict on row i.
+-- The verdict on row i of the runs that a table lends.
 abbrev pub verdictIn : List ℕ → List ℕ → List ℕ → ℕ → SearchResult
 verdictIn parents heads bounds i = verdictAfter (parentIn parents) (rowsIn heads bounds i) (rowIn heads bounds i)

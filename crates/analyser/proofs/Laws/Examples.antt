@@ -23,7 +23,8 @@ use Rattle.reader.specs.Frames.{frameOfKind, frameOf}
 use Rattle.base.specs.Answers.{returned, refusedBy}
 use Rattle.reader.specs.States.{checks, grown, takeFrame, step, run, finish, parse}
 use Rattle.search.specs.Search.{tries, from, search}
-use Rattle.verdicts.specs.Verdicts.{covers, coverOf, verdictAfter}
+use Rattle.verdicts.specs.Verdicts.{verdictAfter}
+use Rattle.covers.specs.Covers.{covers, coverOf}
 use Rattle.kinds.specs.Entries.{entries}
 use Rattle.kinds.specs.Examples.{tableT}
 use Rattle.kinds.proofs.Laws.Examples.{printed}

@@ -24,8 +24,8 @@ use Rattle.reader.proofs.Laws.Texts.{text-cut, lines-no-feed, rest-no-feed}
 use Rattle.reader.proofs.Laws.Letters.{parse-case}
 use Rattle.reader.proofs.Laws.Forms.{frame-said}
 use Rattle.reader.proofs.Laws.Refused.{refused-exactly, accepted-faultless}
-use Rattle.search.specs.Search.{SearchResult, found, none}
-use Rattle.search.specs.Least.{_≤ₚ_}
+use Rattle.covers.specs.Least.{SearchResult, found, none}
+use Rattle.covers.specs.Least.{_≤ₚ_}
 use Rattle.verdicts.specs.Verdicts.{verdictOn}
 use Rattle.verdicts.proofs.Laws.Verdicts.{verdicts}
 use Rattle.kinds.specs.Meanings.{InternalLoop, OutOfPlace, NonEnforceable, Inadequate, Shadowing, Redundancy, Exception, Correlation, Inclusion, Affinity, Contradiction, Superfluous, Skewed, Filtered, LayerTwo, Asymmetric, Cyclic, Monitorable, AlternativePath, FilterShadowing, FilterRedundancy}

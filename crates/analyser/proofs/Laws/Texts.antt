@@ -1,12 +1,13 @@
 -- What every call does first: it reads the text. From the reader that stands for it,
 --   text-refused: the text's refusal, which is then that of every call
 --   Accepted, accepted: the table, and what holds of it
+--   row-refused, row-missing: the answers of a call on a row that is not there
 -- Assumes nothing.
 use mathlib.Core.Path.{_≡_, refl, sym, _∙_}
 use mathlib.Core.List.{List}
-use Prim.Native.Nat.{ℕ}
+use Prim.Native.Nat.{ℕ, _≤_}
 use native.Mathlib.Omega.{arith}
-use borrow.Author.Tests.{eq-eqb, ne-eqb}
+use borrow.Author.Tests.{eq-eqb, ne-eqb, le-ltb}
 use Rattle.base.specs.Answers.{Answer, returned, refusedBy}
 use Rattle.policy.specs.Model.{Table}
 use Rattle.policy.specs.Views.{tableOf, Held}
@@ -16,6 +17,8 @@ use Rattle.reader.specs.States.{parse}
 use Rattle.reader.specs.Views.{Parses}
 use Rattle.reader.specs.declared.Reader.{Reader}
 use Rattle.reader.proofs.Laws.Wellformed.{accepted-wellformed}
+use Rattle.frames.specs.Refusals.{noSuchRow}
+use Rattle.analyser.specs.Calls.{onRow}
 
 pub text-refused : {r : Reader} {x : Answer Table} → Parses r x → (r .number ≡ 0 → ⊥) → x ≡ refusedBy (r .number) (r .line)
 text-refused {r} p h = sym (p .same) ∙ rw (ne-eqb (r .number) 0 h) refl
@@ -39,3 +42,10 @@ accepted text {r} s p h =
       counted = counted (r .table) (omega arith);
       held = p .ready .held;
     }
+
+module _ {A : Type 0} (value : Table → ℕ → A) (text : List ℕ) (k : ℕ) where
+  pub row-refused : {r : Reader} → Parses r (parse text) → (r .number ≡ 0 → ⊥) → onRow value text k ≡ refusedBy (r .number) (r .line)
+  row-refused p h = rw (text-refused p h)
+
+  pub row-missing : {r : Reader} → Accepted text r → r .table .rows ≤ k → onRow value text k ≡ refusedBy noSuchRow 0
+  row-missing {r} a h = rw (a .read) (rw (a .counted .rows, le-ltb k (r .table .rows) h))

@@ -5,10 +5,10 @@ use Rattle.answers.proofs.put_rows.Statement.{statement}
 use Rattle.answers.proofs.put_rows.Tie as tie
 
 abbrev I : tie.InvT-loop
-I text rows witness k₀ k = k ≤ rows + 1
+I text rows call k₀ k = k ≤ rows + 1
 
 abbrev μ : tie.MeasureT-loop
-μ text rows witness k₀ k = rows + 1 - k
+μ text rows call k₀ k = rows + 1 - k
 
 pub put-rows-spec : {M : Type 1} → statement M
 put-rows-spec =

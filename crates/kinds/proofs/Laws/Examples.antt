@@ -8,7 +8,8 @@ use Rattle.relations.specs.Coefficients.{atLeast}
 use Rattle.relations.specs.Selectors.{contains, overlaps, inhabited, meet, exchange, sameSelector}
 use Rattle.relations.specs.Groups.{sameGroup}
 use Rattle.search.specs.Search.{search, from, tries}
-use Rattle.verdicts.specs.Verdicts.{covers, coverOf, verdictAfter}
+use Rattle.verdicts.specs.Verdicts.{verdictAfter}
+use Rattle.covers.specs.Covers.{covers, coverOf}
 use Rattle.kinds.specs.Tests.{inOrder, twice, lacks, nonEnforceable, rides, superfluous, filters, filtered, layerTwo, answers, asymmetric, cyclic, goesOn, chains, alternativePath, encloses, sameTraffic}
 use Rattle.kinds.specs.Kinds.{anomaly}
 use Rattle.kinds.specs.Entries.{gather, entries}

@@ -18,7 +18,7 @@ use Rattle.base.proofs.Laws.Decides.{decides-true, decides-false, decides-as, d
 use Rattle.base.proofs.Laws.Members.{among-decides, same-decides, Some, some-decides}
 use Rattle.relations.proofs.Laws.Coefficients.{atLeast-decides}
 use Rattle.relations.proofs.Laws.Selectors.{contains-decides, overlaps-decides, sameSelector-decides}
-use Rattle.search.specs.Search.{SearchResult, found, none}
+use Rattle.covers.specs.Least.{SearchResult, found, none}
 use Rattle.verdicts.specs.Verdicts.{verdictOn, isNone}
 use Rattle.verdicts.proofs.Laws.Verdicts.{verdicts}
 use Rattle.kinds.specs.Meanings.{IsRow, IsFilter, sourceRoot, destinationRoot, InternalLoop, OutOfPlace, Lacks, NonEnforceable, Inadequate, Rides, Superfluous, Excepts, Filtered, LayerTwo, Answers, Asymmetric, Cyclic}

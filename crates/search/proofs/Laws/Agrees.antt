@@ -1,34 +1,19 @@
 -- An answer that is right is the search's: the least packet is unique, for any number of fields. And a field whose low is above its high is
 -- searched as if it had its low alone.
 -- Assumes nothing.
-use Prim.Native.Nat.{ℕ, suc, _-_, _≤_, max}
+use Prim.Native.Nat.{ℕ, suc, _-_, max}
 use mathlib.Core.Path.{_≡_, refl, sym, ap, subst, _∙_}
 use mathlib.Core.List.{List, [], _∷_, map}
 use native.Mathlib.Decide.{decLt}
 use native.Mathlib.Omega.{arith}
 use lib.ListN.{length}
-use Rattle.policy.specs.Model.{Range, Selector, Packet}
+use Rattle.policy.specs.Model.{Range, Selector}
 use Rattle.policy.specs.Wellformed.{Ordered}
-use Rattle.search.specs.Search.{narrow, next, Candidate, value, last, SearchResult, found, none, or-later, onward, tries, from, search}
-use Rattle.search.specs.Least.{_≤ₚ_, done, less, same, Right}
-use Rattle.search.proofs.Laws.Right.{EachSized, search-right}
+use Rattle.covers.specs.Least.{SearchResult, none, Right}
+use Rattle.search.specs.Search.{narrow, next, Candidate, value, last, or-later, onward, tries, from, search}
+use Rattle.covers.proofs.Laws.Least.{EachSized, right-unique}
+use Rattle.search.proofs.Laws.Right.{search-right}
 use Rattle.search.proofs.Laws.Walks.{risen}
-
--- Two packets of which each is at most the other are the same.
-antisym : {p q : Packet} → p ≤ₚ q → q ≤ₚ p → p ≡ q
-antisym done done = refl
-antisym (less h) (less k) = absurd (omega arith)
-antisym (less h) (same e k) = absurd (omega arith)
-antisym (same e h) (less k) = absurd (omega arith)
-antisym (same {x} {y} {p} {q} e h) (same d k) = λ i. e i ∷ antisym h k i
-
--- So there is one right answer.
-right-unique : (s : Selector) (bs : List Selector) (a b : SearchResult) → Right s bs a → Right s bs b → a ≡ b
-right-unique s bs (found p) (found q) m n =
-    ap found (antisym (m .least q (n .inside) (n .unclaimed)) (n .least p (m .inside) (m .unclaimed)))
-right-unique s bs (found p) none m n = absurd (m .unclaimed (n p (m .inside)))
-right-unique s bs none (found q) m n = absurd (n .unclaimed (m q (n .inside)))
-right-unique s bs none none m n = refl
 
 -- ---- rows whose ranges need not be ordered
 

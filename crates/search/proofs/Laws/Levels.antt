@@ -4,30 +4,31 @@ use Prim.Native.Nat.{ℕ, zero, suc, _-_, _^_, _≤_, _<_, min}
 use mathlib.Core.Path.{_≡_, refl, sym, ap, subst, _∙_}
 use mathlib.Core.Bool.{true, false, true≢false}
 use mathlib.Core.Logic.{_⊎_, inl, inr}
-use mathlib.Core.List.{List, [], _∷_, List·Memᴰ, List·Memᴰ·not-nil, List·Memᴰ·cases-cons, map, Memᴰ·map, Memᴰ·of-map}
+use mathlib.Core.List.{List, [], _∷_, List·Memᴰ, List·Memᴰ·not-nil, List·Memᴰ·cases-cons, map, Memᴰ·of-map}
 use native.Mathlib.Omega.{arith}
 use lib.Bits.{bitOr}
-use lib.ListN.{length, take, replicate, length-replicate, length-take, length-map}
-use lib.Pow.{ones-lt}
-use lib.Seq.{getD-take}
+use lib.ListN.{length, take, replicate, length-replicate, length-map}
 use Rattle.base.specs.Bits.{marked}
-use Rattle.base.proofs.Laws.Bits.{small-marked, within-marked, none-marked, one-marked, one-alone, ones-marked}
-use Rattle.base.proofs.Laws.Members.{member-at, at-member}
+use Rattle.base.proofs.Laws.Bits.{within-marked, none-marked, one-marked, one-alone}
 use Rattle.policy.specs.Model.{Range, Selector, Packet}
 use Rattle.policy.specs.Views.{value as valueOf, rangeIn}
 use Rattle.policy.specs.declared.number.Number.{Number}
 use Rattle.relations.specs.Ranges.{within}
 use Rattle.relations.specs.Selectors.{Holds}
 use Rattle.relations.proofs.Laws.Selectors.{holds-nothing, not-longer}
-use Rattle.search.specs.Least.{_≤ₚ_, done, Claimed, Right}
-use Rattle.search.specs.Search.{value, found, none}
-use Rattle.search.specs.Views.{BoxNumbers, candidateOf}
-use Rattle.search.specs.Covers.{In, HeldBy, Covers, Numbered, boxOf, fieldOf, highs, Narrowed, Follows, opening, Furthest, keptCovers, recall, shifted}
-use Rattle.search.specs.declared.Boxes.{Boxes}
+use Rattle.covers.specs.Least.{_≤ₚ_, done, Claimed, Right, found, none}
+use Rattle.search.specs.Search.{value}
+use Rattle.covers.specs.Views.{BoxNumbers}
+use Rattle.search.specs.Views.{candidateOf}
+use Rattle.covers.specs.Sets.{In, Numbered, fieldOf, Narrowed}
+use Rattle.search.specs.Covers.{HeldBy, Covers, boxOf, highs, Follows, opening, Furthest, keptCovers, recall, shifted}
+use Rattle.covers.specs.declared.Boxes.{Boxes}
 use Rattle.search.specs.declared.Next.{Next}
 use Rattle.search.specs.declared.Next.the-variants.{Value, Last}
-use Rattle.search.proofs.Laws.Right.{EachSized, sized-listed, LeastOf}
-use Rattle.search.proofs.Laws.Sets.{or-old, or-new, or-in}
+use Rattle.covers.proofs.Laws.Places.{of-first, in-first, first-numbered, place-listed, listed-place}
+use Rattle.covers.proofs.Laws.Least.{EachSized, sized-listed}
+use Rattle.search.proofs.Laws.Right.{LeastOf}
+use Rattle.covers.proofs.Laws.Sets.{or-old, or-new, or-in}
 use Rattle.search.proofs.Laws.Kept.{recall-within, recall-kept, shifted-kept, length-shifted}
 use Rattle.search.proofs.Laws.Walks.{Walked, walked-start, walked-next, walked-found, left, left-falls, risen}
 
@@ -160,40 +161,27 @@ boxesOf bounds cover fs = map (λ k. map (rangeIn bounds k) fs) (take (cover .co
 
 -- All boxes of the list.
 module _ (bounds : List ℕ) (fs : List ℕ) (cover : Boxes) (ok : BoxNumbers cover) (all : ℕ) (e : all ≡ 2 ^ cover .count - 1) where
-  listed : (k : ℕ) → In all k → k < cover .count
-  listed k h = small-marked (cover .count) all k (rw e (ones-lt (cover .count))) h
-
-  in-list : (k : ℕ) → k < cover .count → In all k
-  in-list k h = ap (λ (m : ℕ). marked m k) e ∙ ones-marked (cover .count) k h
+  abbrev box : ℕ → Selector
+  box k = map (rangeIn bounds k) fs
 
   pub all-numbered : Numbered (cover .at) all
-  all-numbered k h = ok .within k (listed k h)
-
-  length-taken : length (take (cover .count) (cover .at)) ≡ cover .count
-  length-taken = simp length-take (omega (arith, ok .long, ok .few))
+  all-numbered = subst (Numbered (cover .at)) (sym e) (first-numbered cover ok)
 
   -- A box of the list is one that is claimed by.
   held-claimed : (q : Packet) → HeldBy (boxOf bounds (cover .at) fs) (In all) q → Claimed (boxesOf bounds cover fs) q
-  held-claimed q h =
-      let m = listed (h .place) (h .choice) in
-      let l : h .place < length (take (cover .count) (cover .at)) = rw length-taken m in
-      record {
-        box = boxOf bounds (cover .at) fs (h .place);
-        listed =
-            Memᴰ·map (λ k. map (rangeIn bounds k) fs)
-            (subst (λ (i : ℕ). List·Memᴰ i (take (cover .count) (cover .at))) (getD-take (cover .count) (cover .at) (h .place) 0 m) (at-member 0 (take (cover .count) (cover .at)) (h .place) l));
-        holds = h .holds;
-      }
+  held-claimed q h = record {
+    box = boxOf bounds (cover .at) fs (h .place);
+    listed = place-listed cover ok box (h .place) (of-first (cover .count) (h .place) (subst (λ (m : ℕ). In m (h .place)) e (h .choice)));
+    holds = h .holds;
+  }
 
   claimed-held : (q : Packet) → Claimed (boxesOf bounds cover fs) q → HeldBy (boxOf bounds (cover .at) fs) (In all) q
   claimed-held q h =
-      let i = Memᴰ·of-map (λ k. map (rangeIn bounds k) fs) (take (cover .count) (cover .at)) (h .listed) in
-      let k = member-at 0 (i .0) (take (cover .count) (cover .at)) (i .1) in
-      let l : k .0 < cover .count = rw length-taken at (k .1) in
+      let k = listed-place cover ok box (h .box) (h .listed) in
       record {
         place = k .0;
-        choice = in-list (k .0) l;
-        holds = subst (λ (b : Selector). Holds b q) (sym (ap (λ k. map (rangeIn bounds k) fs) (sym (getD-take (cover .count) (cover .at) (k .0) 0 l) ∙ k .2) ∙ i .2)) (h .holds);
+        choice = subst (λ (m : ℕ). In m (k .0)) (sym e) (in-first (cover .count) (k .0) (k .1));
+        holds = subst (λ (b : Selector). Holds b q) (sym (k .2)) (h .holds);
       }
 
   pub found-right : (s : Selector) (p : Packet) → LeastOf (HeldBy (boxOf bounds (cover .at) fs) (In all)) s p → Right s (boxesOf bounds cover fs) (found p)

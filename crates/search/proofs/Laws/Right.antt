@@ -1,11 +1,11 @@
 -- The search is right: a packet that it finds is the least of the row's that no box claims, and where it finds none there is none.
--- In order: boxes of one size, the least high, what the boxes claim, the least packet, the candidates of one field, the search.
+-- In order: narrowed boxes of one size, the least high, what the boxes claim, the least packet, the candidates of one field, the search.
 -- Assumes nothing.
 use Prim.Native.Nat.{ℕ, zero, suc, _+_, _-_, _≤_, _<_, min}
 use mathlib.Core.Path.{_≡_, refl, subst}
 use mathlib.Core.Bool.{Bool, true, false, _&&_}
 use mathlib.Core.Logic.{inl, inr}
-use mathlib.Core.List.{List, [], _∷_, List·Memᴰ, List·Memᴰ·head, List·Memᴰ·tail, List·Memᴰ·not-nil, List·Memᴰ·cases-cons}
+use mathlib.Core.List.{List, [], _∷_, List·Memᴰ, List·Memᴰ·head, List·Memᴰ·not-nil, List·Memᴰ·cases-cons}
 use native.Mathlib.Omega.{arith}
 use native.Mathlib.Decide.{decLt}
 use lib.Dec.{leb, ltb}
@@ -18,25 +18,12 @@ use Rattle.relations.specs.Ranges.{Within, within}
 use Rattle.relations.specs.Selectors.{Holds}
 use Rattle.base.proofs.Laws.Decides.{decides-leb, decides-ltb, decides-and, decides-holds}
 use Rattle.relations.proofs.Laws.Selectors.{within-decides, holds-both, holds-first, holds-rest, holds-nothing, not-longer, not-shorter}
-use Rattle.search.specs.Search.{first, narrow, lesser, least, value, last, SearchResult, found, none, or-later, onward, tries, from, search}
+use Rattle.covers.specs.Least.{SearchResult, found, none, _≤ₚ_, done, less, same, Claimed, Least, Right}
+use Rattle.search.specs.Search.{first, narrow, lesser, least, value, last, or-later, onward, tries, from, search}
 use Rattle.base.proofs.Laws.Passing.{passing-of, passing-in}
-use Rattle.search.specs.Least.{_≤ₚ_, done, less, same, Claimed, Least, Right}
+use Rattle.covers.proofs.Laws.Least.{EachSized, sized-member}
 
--- ---- boxes of one size
-
--- Each box has n fields.
-abbrev pub EachSized : ℕ → List Selector → Type 0
-EachSized n [] = Unit {0}
-EachSized n (b ∷ bs) = (length b ≡ n) × EachSized n bs
-
--- Boxes that each have n fields, told one by one.
-pub sized-listed : (n : ℕ) (bs : List Selector) → ((b : Selector) → List·Memᴰ b bs → length b ≡ n) → EachSized n bs
-sized-listed n [] h = tt
-sized-listed n (b ∷ bs) h = (h b (List·Memᴰ·head refl), sized-listed n bs (λ c m. h c (List·Memᴰ·tail m)))
-
-pub sized-member : (n : ℕ) (bs : List Selector) → EachSized n bs → (b : Selector) → List·Memᴰ b bs → length b ≡ n
-sized-member n [] s b m = absurd (List·Memᴰ·not-nil m)
-sized-member n (c ∷ bs) s b m = elim (List·Memᴰ·cases-cons m) [ inl e ↦ rw e (s .0) | inr k ↦ sized-member n bs (s .1) b k ]
+-- ---- narrowed boxes of one size
 
 sized-narrow : (n v : ℕ) (bs : List Selector) → EachSized (suc n) bs → EachSized n (narrow v bs)
 sized-narrow n v [] s = tt

@@ -16,12 +16,12 @@ use Rattle.policy.specs.Model.{Selector, Packet}
 use Rattle.policy.specs.Views.{rangeIn}
 use Rattle.relations.specs.Selectors.{Holds}
 use Rattle.relations.proofs.Laws.Selectors.{holds-both, holds-first, holds-rest, holds-nothing, not-longer, not-shorter, holds-length}
-use Rattle.search.specs.Search.{SearchResult, found, none, search}
-use Rattle.search.specs.Least.{Claimed, Right}
-use Rattle.search.specs.Views.{boxAt, boxesAt}
+use Rattle.covers.specs.Least.{SearchResult, found, none, Claimed, Right}
+use Rattle.search.specs.Search.{search}
+use Rattle.covers.specs.Views.{boxAt, boxesAt}
 use Rattle.search.specs.Turns.{turned}
-use Rattle.search.specs.declared.Boxes.{Boxes}
-use Rattle.search.proofs.Laws.Right.{EachSized, sized-listed, sized-member}
+use Rattle.covers.specs.declared.Boxes.{Boxes}
+use Rattle.covers.proofs.Laws.Least.{EachSized, sized-listed, sized-member}
 use Rattle.search.proofs.Laws.Walks.{risen}
 use Rattle.search.proofs.Laws.Agrees.{searched-right}
 use Rattle.search.proofs.Laws.Levels.{boxesOf}

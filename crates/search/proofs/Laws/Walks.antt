@@ -16,7 +16,8 @@ use Rattle.relations.specs.Ranges.{Within}
 use Rattle.relations.specs.Selectors.{Holds}
 use Rattle.relations.proofs.Laws.Selectors.{holds-both, holds-first, holds-rest, not-shorter}
 use Rattle.search.specs.Search.{Candidate, value, last}
-use Rattle.search.specs.Covers.{HeldBy, Narrowed, past, opening}
+use Rattle.covers.specs.Sets.{Narrowed}
+use Rattle.search.specs.Covers.{HeldBy, past, opening}
 use Rattle.search.proofs.Laws.Right.{LeastOf, least-here}
 
 -- Boxes of which more are chosen hold what they held.

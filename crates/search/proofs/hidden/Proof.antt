@@ -9,9 +9,10 @@ use denote.Ref.{now}
 use Rattle.policy.specs.Limits.{fieldCount}
 use Rattle.policy.specs.Model.{Selector}
 use Rattle.policy.specs.Views.{selectorIn}
-use Rattle.search.specs.Search.{none, search as searched}
+use Rattle.covers.specs.Least.{none}
+use Rattle.search.specs.Search.{search as searched}
 use Rattle.search.specs.Turns.{turned, Tells}
-use Rattle.search.specs.Views.{boxesAt, resultOf}
+use Rattle.covers.specs.Views.{boxesAt, resultOf}
 use Rattle.search.proofs.Laws.Levels.{boxes-sized}
 use Rattle.search.proofs.Laws.Turns.{fieldsFrom, turned-none, free-decides, covered-decides}
 use Rattle.search.proofs.hidden.Statement.{statement}

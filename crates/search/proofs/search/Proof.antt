@@ -2,7 +2,7 @@
 -- Assumes nothing.
 use borrow.Author.Needs.{needs}
 use mathlib.Core.Path.{refl, subst, ap, _∙_}
-use Rattle.search.specs.Search.{found}
+use Rattle.covers.specs.Least.{found}
 use Rattle.search.specs.Turns.{Tells}
 use Rattle.search.proofs.Laws.Turns.{search-unturned}
 use Rattle.search.proofs.search.Statement.{statement}

@@ -1,115 +1,28 @@
--- The verdict on a row of a well-formed table is right. In order: the test whether a row covers another, what the cover of a
--- row of a table claims, the verdict.
+-- The verdict on a row of a well-formed table is right.
 -- Assumes nothing.
 use Prim.Native.Nat.{ℕ, _<_}
-use mathlib.Core.Path.{_≡_, refl, sym, ap, _∙_}
-use mathlib.Core.Bool.{_&&_}
+use mathlib.Core.Path.{_≡_, refl}
 use mathlib.Core.Logic.{inl, inr}
-use mathlib.Core.List.{List, List·Memᴰ}
-use native.Mathlib.Omega.{arith}
-use lib.ListN.{length, take, length-take}
-use lib.Seq.{getD-take}
-use Rattle.base.specs.Truths.{Decides}
-use Rattle.policy.specs.Model.{Selector, Packet, Row, Table, noRow, rowAt, parentOf}
+use lib.ListN.{length}
+use Rattle.policy.specs.Model.{Packet, Table, rowAt}
 use Rattle.policy.specs.Wellformed.{Wellformed}
-use Rattle.policy.proofs.Laws.Tables.{five-ranges}
-use Rattle.relations.specs.Entities.{AtOrAbove, atOrAbove}
-use Rattle.relations.specs.Groups.{SameGroup, sameGroup, Wins, Dead, Hides}
-use Rattle.base.proofs.Laws.Decides.{decides-and, decides-holds}
-use Rattle.relations.proofs.Laws.Entities.{atOrAbove-decides}
+use Rattle.relations.specs.Groups.{Wins, Dead}
 use Rattle.relations.proofs.Laws.Tables.{table-tree}
-use Rattle.relations.proofs.Laws.Groups.{sameGroup-decides, wins-own, hidden-or-wins}
-use Rattle.search.specs.Search.{SearchResult, found, none}
-use Rattle.search.specs.Least.{Claimed, Least, Right}
-use Rattle.base.proofs.Laws.Members.{member-at, at-member}
-use Rattle.base.proofs.Laws.Passing.{passing-of, passing-in}
-use Rattle.search.proofs.Laws.Right.{EachSized, sized-listed, search-right}
-use Rattle.verdicts.specs.Verdicts.{covers, coverOf, verdictAfter, verdictOn}
+use Rattle.relations.proofs.Laws.Groups.{wins-own, hidden-or-wins}
+use Rattle.covers.specs.Least.{SearchResult, found, none, Claimed, Least, Right}
+use Rattle.covers.specs.Covers.{coverOn}
+use Rattle.covers.proofs.Laws.Claims.{claimed-hidden, hidden-claimed, sized-cover}
+use Rattle.search.proofs.Laws.Right.{search-right}
+use Rattle.verdicts.specs.Verdicts.{verdictAfter, verdictOn}
 use Rattle.verdicts.specs.Promises.{Verdicts}
 
--- ---- the test whether a row covers another
-
--- The row q is of r's group, and ⪰ it in source and destination.
-abbrev Covers : (ℕ → ℕ) → Row → Row → Type 0
-Covers up r q = SameGroup q r × (AtOrAbove up (q .source) (r .source) × AtOrAbove up (q .destination) (r .destination))
-
-covers-decides : (up : ℕ → ℕ) (r q : Row) → Decides (covers up r q) (Covers up r q)
-unfolding covers
-covers-decides up r q =
-    decides-and (sameGroup q r) (atOrAbove up (q .source) (r .source) && atOrAbove up (q .destination) (r .destination))
-    (sameGroup-decides q r)
-    (decides-and (atOrAbove up (q .source) (r .source)) (atOrAbove up (q .destination) (r .destination))
-    (atOrAbove-decides up (q .source) (r .source)) (atOrAbove-decides up (q .destination) (r .destination)))
-
--- ---- what the cover of a row of a table claims
-
-module _ (t : Table) (i : ℕ) where
-  -- Row i's cover.
-  abbrev cover : List Selector
-  cover = coverOf (parentOf t) (rowAt t i) (take i (t .rows))
-
-  covers-at : (j : ℕ) → Decides (covers (parentOf t) (rowAt t i) (rowAt t j)) (Covers (parentOf t) (rowAt t i) (rowAt t j))
-  covers-at j = covers-decides (parentOf t) (rowAt t i) (rowAt t j)
-
-  -- Each box is the selector of an earlier row that covers row i.
-  box-of : (b : Selector) → List·Memᴰ b cover
-      → (j : ℕ) × (j < i) × Covers (parentOf t) (rowAt t i) (rowAt t j) × (b ≡ rowAt t j .selector)
-  unfolding coverOf
-  box-of b m =
-      let h = passing-of (covers (parentOf t) (rowAt t i)) (λ q. q .selector) (take i (t .rows)) b m in
-      let k = member-at noRow (h .0) (take i (t .rows)) (h .1) in
-      let l : k .0 < i = omega (arith, k .1, length-take i (t .rows)) in
-      let s : h .0 ≡ rowAt t (k .0) = sym (k .2) ∙ getD-take i (t .rows) (k .0) noRow l in
-      (k .0, l, covers-at (k .0) .yes (rw s at (h .2)), h .3 ∙ ap (λ (q : Row). q .selector) s)
-
-  -- What the cover claims an earlier row hides,
-  claimed-hidden : (p : Packet) → Claimed cover p → (j : ℕ) × Hides t j i p
-  claimed-hidden p c =
-      let h = box-of (c .box) (c .listed) in
-      let k = h .2 in (
-        h .0,
-        record {
-          earlier = h .1;
-          group = k .0;
-          source = k .1 .0;
-          destination = k .1 .1;
-          packet = rw (h .3) at (c .holds);
-        },
-      )
-
-  -- and what an earlier row hides the cover claims.
-  hidden-claimed : i < length (t .rows) → (j : ℕ) (p : Packet) → Hides t j i p → Claimed cover p
-  unfolding coverOf
-  hidden-claimed row j p h =
-      let s = getD-take i (t .rows) j noRow (h .earlier) in
-      let e = decides-holds (covers (parentOf t) (rowAt t i) (rowAt t j)) (covers-at j) (h .group, (h .source, h .destination)) in
-      let m : List·Memᴰ (rowAt t j) (take i (t .rows)) = rw s at (at-member noRow (take i (t .rows)) j (omega (arith, length-take i (t .rows), h .earlier))) in
-      record {
-        box = rowAt t j .selector;
-        listed = passing-in (covers (parentOf t) (rowAt t i)) (λ q. q .selector) (take i (t .rows)) (rowAt t j) m e;
-        holds = h .packet;
-      }
-
--- ---- the verdict
-
 module _ (t : Table) (w : Wellformed t) (i : ℕ) (row : i < length (t .rows)) where
-  -- Every box has as many ranges as row i's selector.
-  sized-cover : EachSized (length (rowAt t i .selector)) (cover t i)
-  sized-cover = sized-listed (length (rowAt t i .selector)) (cover t i) five
-    where
-      five : (b : Selector) → List·Memᴰ b (cover t i) → length b ≡ length (rowAt t i .selector)
-      five b m =
-          let h = box-of t i b m in
-          ap length (h .3)
-          ∙ five-ranges (w .row (h .0) (omega (arith, h .1)) .selector)
-          ∙ sym (five-ranges (w .row i row .selector))
-
   -- The verdict is the right answer of a search of row i's selector for what its cover leaves.
-  verdict-right : Right (rowAt t i .selector) (cover t i) (verdictOn t i)
+  pub verdict-right : Right (rowAt t i .selector) (coverOn t i) (verdictOn t i)
   unfolding verdictAfter
-  verdict-right = search-right (rowAt t i .selector) (cover t i) (w .row i row .selector .ordered) sized-cover
+  verdict-right = search-right (rowAt t i .selector) (coverOn t i) (w .row i row .selector .ordered) (sized-cover t w i row)
 
-  verdict-least : (p : Packet) → verdictOn t i ≡ found p → Least (rowAt t i .selector) (cover t i) p
+  verdict-least : (p : Packet) → verdictOn t i ≡ found p → Least (rowAt t i .selector) (coverOn t i) p
   verdict-least p e = rw e at verdict-right
 
   -- The row wins its own probe with the packet that is found.
@@ -122,7 +35,7 @@ module _ (t : Table) (w : Wellformed t) (i : ℕ) (row : i < length (t .rows)) w
       ]
 
   -- No packet with which the row wins a probe is claimed.
-  won-unclaimed : (a b : ℕ) (p : Packet) → Wins t i a b p → Claimed (cover t i) p → ⊥
+  won-unclaimed : (a b : ℕ) (p : Packet) → Wins t i a b p → Claimed (coverOn t i) p → ⊥
   won-unclaimed a b p o c =
       let h = claimed-hidden t i p c in
       let k = h .1 in
@@ -139,7 +52,7 @@ module _ (t : Table) (w : Wellformed t) (i : ℕ) (row : i < length (t .rows)) w
     where
       none-dead : verdictOn t i ≡ none → Dead t i
       none-dead e a b p x y o =
-          let r : Right (rowAt t i .selector) (cover t i) none = rw e at verdict-right in
+          let r : Right (rowAt t i .selector) (coverOn t i) none = rw e at verdict-right in
           won-unclaimed a b p o (r p (o .matches .packet))
 
       dead-none : (o : SearchResult) → verdictOn t i ≡ o → Dead t i → verdictOn t i ≡ none

@@ -6,7 +6,7 @@ use mathlib.Core.Bool.{Bool}
 use native.Mathlib.Omega.{arith}
 use Rattle.base.specs.Truths.{Decides}
 use Rattle.base.proofs.Laws.Decides.{decides-holds, decides-fails}
-use Rattle.search.specs.Search.{SearchResult, found, none}
+use Rattle.covers.specs.Least.{SearchResult, found, none}
 use Rattle.verdicts.specs.Verdicts.{verdictAfter, isNone}
 use Rattle.verdicts.proofs.is_dead.Statement.{statement}
 use Rattle.verdicts.proofs.is_dead.Tie as tie

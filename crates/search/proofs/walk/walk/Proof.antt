@@ -11,10 +11,12 @@ use Rattle.policy.specs.Limits.{fieldCount}
 use Rattle.policy.specs.Model.{Range, Selector}
 use Rattle.policy.specs.Views.{value, rangeOf, rangeIn, selectorIn}
 use Rattle.policy.specs.declared.selector.Range.{Range as RangeStruct}
-use Rattle.search.specs.Search.{SearchResult, search as searched}
-use Rattle.search.specs.Least.{Right}
-use Rattle.search.specs.Views.{boxesAt, candidateOf}
-use Rattle.search.specs.Covers.{In, Numbered, boxOf}
+use Rattle.covers.specs.Least.{SearchResult, Right}
+use Rattle.search.specs.Search.{search as searched}
+use Rattle.covers.specs.Views.{boxesAt}
+use Rattle.search.specs.Views.{candidateOf}
+use Rattle.covers.specs.Sets.{In, Numbered}
+use Rattle.search.specs.Covers.{boxOf}
 use Rattle.search.specs.Turns.{turned}
 use Rattle.search.proofs.Laws.Walks.{Walked, walked-start, left, risen}
 use Rattle.search.proofs.Laws.Levels.{Keeps, keeps-none, keeps-more, Fails, fails-last, Stands, level-start, level-end, level-fails, level-falls, level-next, first-next, level-found, last-found, all-numbered, found-right, none-right, boxesOf, boxes-sized}

@@ -1,0 +1,10 @@
+-- `timed_mesh` meets its contract: the number of the call's answer. Assumes nothing.
+use borrow.Author.Needs.{needs}
+use mathlib.Core.Path.{ap, _∙_}
+use Rattle.timed.specs.Codes.{witnessCode}
+use Rattle.timed.proofs.timed_mesh.Statement.{statement}
+use Rattle.timed.proofs.timed_mesh.Tie as tie
+
+pub timed-mesh-spec : {M : Type 1} → statement M
+timed-mesh-spec =
+    tie.close (tie.spec (λ c κs. search needs) (λ c κs. search needs) (λ c. c .code .ensures ∙ ap witnessCode (c .before .mesh-of .ensures)))
