@@ -11,11 +11,12 @@ use lib.Dec.{eqb}
 use lib.ListN.{length, set, length-set}
 use lib.Seq.{getD-set-same, getD-set-other}
 use Rattle.base.proofs.Laws.Bits.{first-bit, within-marked}
+use Rattle.base.proofs.Laws.Firsts.{below-more}
 use Rattle.base.proofs.Laws.Decides.{decides-eqb, decided}
 use Rattle.policy.specs.Limits.{fieldCount}
 use Rattle.covers.specs.Sets.{In}
 use Rattle.mesh.specs.Views.{mostCuts, setAt}
-use Rattle.mesh.proofs.Laws.Loops.{SameBefore, same-more}
+use Rattle.mesh.proofs.Laws.Loops.{SameBefore}
 use Rattle.mesh.specs.Blocks.{at, Free, Inside, Block, HasCell, Earlier, First, GoOn, Holding}
 
 -- ---- which cell is earlier
@@ -46,7 +47,7 @@ differ c d zero = inl (λ f l. absurd (omega arith))
 differ c d (suc n) = elim (differ c d n) [
   | inr b ↦ inr (b .0, omega (arith, b .1), b .2, b .3)
   | inl s ↦ elim (decided (eqb (at c n) (at d n)) (decides-eqb (at c n) (at d n))) [
-    | inl e ↦ let q : n + 1 ≡ suc n = omega arith in inl (subst (SameBefore c d) q (same-more c d n s e))
+    | inl e ↦ let q : n + 1 ≡ suc n = omega arith in inl (subst (SameBefore c d) q (below-more (λ f. at c f ≡ at d f) n s e))
     | inr e ↦ inr (n, omega arith, e, s)
   ]
 ]

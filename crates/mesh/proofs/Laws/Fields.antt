@@ -9,12 +9,11 @@ use native.Mathlib.Omega.{arith}
 use lib.ListN.{length, getD}
 use Rattle.base.specs.Lists.{tabulate}
 use Rattle.base.proofs.Laws.Lists.{length-tabulate, getD-tabulate}
-use Rattle.base.proofs.Laws.Pairs.{pairwise-at}
 use Rattle.policy.specs.Model.{Range, Selector, Packet, noRange}
 use Rattle.policy.specs.Wellformed.{Ordered}
 use Rattle.relations.specs.Ranges.{Within}
 use Rattle.relations.specs.Selectors.{Holds}
-use Rattle.relations.proofs.Laws.Selectors.{holds-both, holds-nothing}
+use Rattle.relations.proofs.Laws.Selectors.{holds-both, holds-first, holds-rest, holds-nothing, not-longer, not-shorter}
 use Rattle.covers.specs.Least.{_≤ₚ_, done, less, same}
 
 -- ---- a selector and a packet
@@ -22,10 +21,14 @@ use Rattle.covers.specs.Least.{_≤ₚ_, done, less, same}
 -- The packet is in the selector exactly when each number is in its range.
 module _ (r : ℕ → Range) (n : ℕ) where
   pub holds-field : (p : Packet) → Holds (tabulate r n) p → (f : ℕ) → f < n → Within (r f) (getD p f 0)
-  unfolding Holds
-  holds-field p h f l =
-      subst (λ (q : Range). Within q (getD p f 0)) (getD-tabulate r n f noRange l)
-      (pairwise-at Within noRange 0 (record { low = omega arith; high = omega arith }) (tabulate r n) p h f)
+  holds-field p h f l = subst (λ (q : Range). Within q (getD p f 0)) (getD-tabulate r n f noRange l) (go (tabulate r n) p h f)
+    where
+      go : (s : Selector) (p : Packet) → Holds s p → (f : ℕ) → Within (getD s f noRange) (getD p f 0)
+      go [] [] h f = record { low = omega arith; high = omega arith }
+      go [] (x ∷ p) h f = absurd (not-longer x p h)
+      go (q ∷ s) [] h f = absurd (not-shorter q s h)
+      go (q ∷ s) (x ∷ p) h zero = holds-first q s x p h
+      go (q ∷ s) (x ∷ p) h (suc f) = go s p (holds-rest q s x p h) f
 
   pub fields-hold : (p : Packet) → length p ≡ n → ((f : ℕ) → f < n → Within (r f) (getD p f 0)) → Holds (tabulate r n) p
   fields-hold p e h =

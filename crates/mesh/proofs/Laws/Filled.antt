@@ -4,10 +4,10 @@ use Prim.Native.Nat.{ℕ, _+_, _-_, _*_, _^_, _≤_, _<_}
 use mathlib.Core.Path.{_≡_, refl, sym, subst, _∙_}
 use mathlib.Core.Logic.{_⊎_, inl, inr}
 use mathlib.Core.List.{List, List·Memᴰ}
-use native.Mathlib.Decide.{decLt}
 use native.Mathlib.Omega.{arith}
 use lib.ListN.{length, getD, set, length-set}
 use lib.Seq.{getD-set-same, getD-set-other}
+use Rattle.base.proofs.Laws.Firsts.{below-more}
 use Rattle.base.proofs.Laws.Lists.{length-tabulate}
 use Rattle.base.proofs.Laws.Members.{at-member}
 use Rattle.policy.specs.Model.{Range}
@@ -97,19 +97,17 @@ module _ (bounds numbers : List ℕ) (count row f : ℕ) (listed : Listed number
   filling-next before sets n v s next h w m = record {
     long = length-set sets (mostCuts * f + n) s ∙ h .long;
     reached = at-next n v next (h .reached) m;
-    marked = λ i l. elim (decLt i n) [
-      | yes k ↦
-          subst (λ (x : ℕ). Narrowed (fieldOf bounds numbers f) (λ j. j < count) (getD cs i 0) (In x))
-          (sym (getD-set-other sets (mostCuts * f + n) (mostCuts * f + i) s 0 (λ e. omega arith))) (h .marked i k)
-      | no k ↦
-          let e : n ≡ i = omega arith in
-          let b = h .reached .0 in
-          let a = in-array n (omega (arith, cuts-fit)) in
-          let t : getD (set sets (mostCuts * f + n) s) (mostCuts * f + n) 0 ≡ s = getD-set-same sets (mostCuts * f + n) s 0 (omega (arith, h .long)) in
-          subst (λ (j : ℕ). Narrowed (fieldOf bounds numbers f) (λ j. j < count) (getD cs j 0) (In (getD (set sets (mostCuts * f + n) s) (mostCuts * f + j) 0))) e
-          (subst (λ (x : ℕ). Narrowed (fieldOf bounds numbers f) (λ j. j < count) (getD cs n 0) (In x)) (sym t)
-          (subst (λ (x : ℕ). Narrowed (fieldOf bounds numbers f) (λ j. j < count) x (In s)) (sym (h .reached .1)) (of-all v s w)))
-    ];
+    marked =
+        let b = h .reached .0 in
+        let a = in-array n (omega (arith, cuts-fit)) in
+        below-more
+        (λ i. Narrowed (fieldOf bounds numbers f) (λ j. j < count) (getD cs i 0) (In (getD (set sets (mostCuts * f + n) s) (mostCuts * f + i) 0))) n
+        (λ i k.
+        subst (λ (x : ℕ). Narrowed (fieldOf bounds numbers f) (λ j. j < count) (getD cs i 0) (In x))
+        (sym (getD-set-other sets (mostCuts * f + n) (mostCuts * f + i) s 0 (λ e. omega arith))) (h .marked i k))
+        (subst (λ (x : ℕ). Narrowed (fieldOf bounds numbers f) (λ j. j < count) (getD cs n 0) (In x))
+        (sym (getD-set-same sets (mostCuts * f + n) s 0 (omega (arith, h .long))))
+        (subst (λ (x : ℕ). Narrowed (fieldOf bounds numbers f) (λ j. j < count) x (In s)) (sym (h .reached .1)) (of-all v s w)));
     others = λ p o. getD-set-other sets (mostCuts * f + n) p s 0 (λ e. apart p e o) ∙ h .others p (wider p o);
   }
     where

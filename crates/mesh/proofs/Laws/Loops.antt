@@ -15,6 +15,7 @@ use lib.Seq.{getD-set-same, getD-set-other}
 use Rattle.base.specs.Truths.{pick, Decides}
 use Rattle.base.specs.Bits.{marked}
 use Rattle.base.proofs.Laws.Bits.{marked-and}
+use Rattle.base.proofs.Laws.Firsts.{below-more}
 use Rattle.base.proofs.Laws.Decides.{decides-and, decides-itself, decides-holds, decides-false}
 use Rattle.policy.specs.Limits.{fieldCount}
 use Rattle.covers.specs.Sets.{In}
@@ -26,12 +27,6 @@ use Rattle.mesh.specs.Blocks.{at, Earlier, Some, AllHave, GoOn}
 -- The cells are the same in the first n fields.
 abbrev pub SameBefore : (c d : List ℕ) (n : ℕ) → Type 0
 SameBefore c d n = (f : ℕ) → f < n → at c f ≡ at d f
-
-pub same-more : (c d : List ℕ) (n : ℕ) → SameBefore c d n → at c n ≡ at d n → SameBefore c d (n + 1)
-same-more c d n h e f l = elim (decLt f n) [
-  | yes k ↦ h f k
-  | no k ↦ let q : n ≡ f = omega arith in subst (λ (x : ℕ). at c x ≡ at d x) q e
-]
 
 -- Where they differ next decides.
 pub earlier-at : (c d : List ℕ) (f : ℕ) → f < fieldCount → SameBefore c d f → (at c f ≡ at d f → ⊥) → Decides (ltb (at c f) (at d f)) (Earlier c d)
@@ -60,12 +55,6 @@ earlier-nowhere c d s = decides-false (λ e. let h = s (e .field) (e .known) in 
 abbrev pub CellBefore : (lo hi : List ℕ) (n : ℕ) → Type 0
 CellBefore lo hi n = (f : ℕ) → f < n → at lo f < at hi f
 
-pub cell-more : (lo hi : List ℕ) (n : ℕ) → CellBefore lo hi n → at lo n < at hi n → CellBefore lo hi (n + 1)
-cell-more lo hi n h e f l = elim (decLt f n) [
-  | yes k ↦ h f k
-  | no k ↦ let q : n ≡ f = omega arith in subst (λ (x : ℕ). at lo x < at hi x) q e
-]
-
 -- ---- the middle of two cells
 
 -- In the first n fields c is in the middle.
@@ -74,13 +63,9 @@ MiddleBefore lo hi c n = (f : ℕ) → f < n → at c f ≡ at lo f + (at hi f -
 
 pub middle-more : (lo hi c : List ℕ) (n : ℕ) → n < length c → MiddleBefore lo hi c n
     → MiddleBefore lo hi (set c n (at lo n + (at hi n - at lo n) / 2)) (n + 1)
-middle-more lo hi c n l m f h = elim (decLt f n) [
-  | yes k ↦ getD-set-other c n f (at lo n + (at hi n - at lo n) / 2) 0 (λ q. omega arith) ∙ m f k
-  | no k ↦
-      let q : n ≡ f = omega arith in
-      subst (λ (x : ℕ). at (set c n (at lo n + (at hi n - at lo n) / 2)) x ≡ at lo x + (at hi x - at lo x) / 2) q
-      (getD-set-same c n (at lo n + (at hi n - at lo n) / 2) 0 l)
-]
+middle-more lo hi c n l m =
+    below-more (λ f. at (set c n (at lo n + (at hi n - at lo n) / 2)) f ≡ at lo f + (at hi f - at lo f) / 2) n
+    (λ f h. getD-set-other c n f (at lo n + (at hi n - at lo n) / 2) 0 (λ q. omega arith) ∙ m f h) (getD-set-same c n (at lo n + (at hi n - at lo n) / 2) 0 l)
 
 -- ---- the boxes that have a cell
 
@@ -105,12 +90,8 @@ pub claiming-more : (sets c : List ℕ) (n set more : ℕ) → ClaimingBefore se
 claiming-more sets c n set more h e k = (to, of)
   where
     to : In (bitAnd set more) k → (f : ℕ) → f < n + 1 → In (setAt sets f (at c f)) k
-    to m f l = elim (decLt f n) [
-      | yes b ↦ h k .0 (both set more k .0 m .0) f b
-      | no b ↦
-          let q : n ≡ f = omega arith in
-          subst (λ (x : ℕ). In (setAt sets x (at c x)) k) q (subst (λ (x : ℕ). In x k) e (both set more k .0 m .1))
-    ]
+    to m =
+        below-more (λ f. In (setAt sets f (at c f)) k) n (h k .0 (both set more k .0 m .0)) (subst (λ (x : ℕ). In x k) e (both set more k .0 m .1))
 
     of : ((f : ℕ) → f < n + 1 → In (setAt sets f (at c f)) k) → In (bitAnd set more) k
     of a = both set more k .1 (h k .1 (λ f l. a f (omega arith)), subst (λ (x : ℕ). In x k) (sym e) (a n (omega arith)))
@@ -148,10 +129,7 @@ pub have-more : (sets : List ℕ) (f lo hi boxes i : ℕ) → HaveBefore sets f 
 have-more sets f lo hi boxes i h l a = record {
   after = omega (arith, h .after);
   most = omega arith;
-  have = λ j b k. elim (decLt j i) [
-    | yes m ↦ h .have j b m
-    | no m ↦ let q : i ≡ j = omega arith in subst (AllHave sets f boxes) q a
-  ];
+  have = λ j b k. below-more (λ j. lo < j → AllHave sets f boxes j) i (λ j l m. h .have j m l) (λ m. a) j k b;
 }
 
 -- They end where one of them has no more, or go on to the end.

@@ -10,6 +10,7 @@ use native.Mathlib.Omega.{arith}
 use lib.ListN.{length, getD, set}
 use lib.Seq.{getD-set-same, getD-set-other}
 use Rattle.base.specs.Truths.{Decides}
+use Rattle.base.proofs.Laws.Firsts.{below-more}
 use Rattle.base.proofs.Laws.Lists.{length-tabulate, getD-tabulate}
 use Rattle.base.proofs.Laws.Members.{at-member}
 use Rattle.policy.specs.Limits.{fieldCount}
@@ -56,22 +57,14 @@ module _ (bounds numbers : List ℕ) (count row : ℕ) (listed : Listed numbers 
   pub ready-next : (before after past : List ℕ) (n m : ℕ) → n < fieldCount → n < length past → Ready bounds numbers count row before past n
       → Written bounds numbers count row n before after m → Ready bounds numbers count row after (set past n m) (n + 1)
   ready-next before after past n m k long r w = record {
-    sizes = λ f l. elim (decLt f n) [
-      | yes b ↦ getD-set-other past n f m 0 (λ q. omega arith) ∙ r .sizes f b
-      | no b ↦
-          let q : n ≡ f = omega arith in
-          subst (λ (x : ℕ). at (set past n m) x ≡ length (cutsOf bounds numbers count row x)) q (getD-set-same past n m 0 long ∙ w .counted)
-    ];
-    marked = λ f l. elim (decLt f n) [
-      | yes b ↦ λ i h.
-          let fit = cuts-fit bounds numbers count row f listed (asked-field bounds row f asked (omega arith)) in
-          subst (λ (x : ℕ). Narrowed (fieldOf bounds numbers f) (λ k. k < count) (getD (cutsOf bounds numbers count row f) i 0) (In x))
-          (sym (set-kept f n m i before after b (omega arith) w)) (r .marked f b i h)
-      | no b ↦
-          let q : n ≡ f = omega arith in
-          subst (λ (x : ℕ). Marked bounds numbers count row x after (length (cutsOf bounds numbers count row x))) q
-          (subst (Marked bounds numbers count row n after) (w .counted) (w .sets))
-    ];
+    sizes = below-more (λ f. at (set past n m) f ≡ length (cutsOf bounds numbers count row f)) n
+        (λ f b. getD-set-other past n f m 0 (λ q. omega arith) ∙ r .sizes f b) (getD-set-same past n m 0 long ∙ w .counted);
+    marked = below-more (λ f. Marked bounds numbers count row f after (length (cutsOf bounds numbers count row f))) n
+        (λ f b i h.
+        let fit = cuts-fit bounds numbers count row f listed (asked-field bounds row f asked (omega arith)) in
+        subst (λ (x : ℕ). Narrowed (fieldOf bounds numbers f) (λ k. k < count) (getD (cutsOf bounds numbers count row f) i 0) (In x))
+        (sym (set-kept f n m i before after b (omega arith) w)) (r .marked f b i h))
+        (subst (Marked bounds numbers count row n after) (w .counted) (w .sets));
   }
 
 -- ---- cells and boxes

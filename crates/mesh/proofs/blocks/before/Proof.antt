@@ -3,8 +3,10 @@ use borrow.Author.Needs.{needs}
 use native.Mathlib.Omega.{arith}
 use Prim.Native.Nat.{_-_, _≤_}
 use mathlib.Core.Path.{_≡_, subst}
+use Rattle.base.proofs.Laws.Firsts.{below-more}
 use Rattle.policy.specs.Limits.{fieldCount}
-use Rattle.mesh.proofs.Laws.Loops.{SameBefore, same-more, earlier-at, earlier-nowhere}
+use Rattle.mesh.specs.Blocks.{at}
+use Rattle.mesh.proofs.Laws.Loops.{SameBefore, earlier-at, earlier-nowhere}
 use Rattle.mesh.proofs.blocks.before.Statement.{statement}
 use Rattle.mesh.proofs.blocks.before.Tie as tie
 
@@ -18,7 +20,7 @@ again : tie.Need-loop-again I μ
 again c =
     let l = c .before .before in
     let a = l .before .args in
-    (omega (arith, c .before .loop-test .taken), same-more (a .t1) (a .t2) (l .loop .f) (l .loop .inv .1) (c .if1 .left))
+    (omega (arith, c .before .loop-test .taken), below-more (λ f. at (a .t1) f ≡ at (a .t2) f) (l .loop .f) (l .loop .inv .1) (c .if1 .left))
 
 nowhere : tie.Need-returns-2 I μ
 nowhere c =

@@ -1,11 +1,13 @@
 -- `has_cell` meets its contract: there is an interval in the fields so far. Assumes nothing.
 use borrow.Author.Needs.{needs}
 use native.Mathlib.Omega.{arith}
-use Prim.Native.Nat.{_-_, _≤_}
+use Prim.Native.Nat.{_-_, _≤_, _<_}
 use mathlib.Core.Path.{_≡_, subst}
 use Rattle.base.proofs.Laws.Decides.{decides-true, decides-false}
+use Rattle.base.proofs.Laws.Firsts.{below-more}
 use Rattle.policy.specs.Limits.{fieldCount}
-use Rattle.mesh.proofs.Laws.Loops.{CellBefore, cell-more}
+use Rattle.mesh.specs.Blocks.{at}
+use Rattle.mesh.proofs.Laws.Loops.{CellBefore}
 use Rattle.mesh.proofs.blocks.has_cell.Statement.{statement}
 use Rattle.mesh.proofs.blocks.has_cell.Tie as tie
 
@@ -24,7 +26,7 @@ again : tie.Need-loop-again I μ
 again c =
     let l = c .before .before in
     let a = l .before .args in
-    (omega (arith, c .before .loop-test .taken), cell-more (a .t1) (a .t2) (l .loop .f) (l .loop .inv .1) (let e = c .if1 .left in omega arith))
+    (omega (arith, c .before .loop-test .taken), below-more (λ f. at (a .t1) f < at (a .t2) f) (l .loop .f) (l .loop .inv .1) (let e = c .if1 .left in omega arith))
 
 all : tie.Need-returns-2 I μ
 all c =
