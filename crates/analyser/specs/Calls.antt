@@ -1,4 +1,4 @@
--- Document 01, "The six calls", and document 02, [2], [5] and [8]: the answers of the calls, and their outputs, for every input. Each is a call on what reading the
+-- Document 01, "The six calls", and document 02, [2] and [5]: the answers of the calls, and their outputs, for every input. Each is a call on what reading the
 -- text gives: the text's refusal, else that of the first condition that is broken, else a value. "The first faulty line counts ..; then 9, 10, 8."
 -- Assumes nothing.
 use Prim.Native.Nat.{ℕ, _+_, _*_}
@@ -17,23 +17,19 @@ use Rattle.joining.specs.Joining.{joinable, joined}
 use Rattle.prefixes.specs.Prefixes.{Prefix, prefixes}
 use Rattle.prefixes.specs.Bytes.{prefixBytes}
 use Rattle.prefixes.specs.Sides.{isSide, sideOf}
-use Rattle.frames.specs.Refusals.{shortOutput, noSuchRow, noSuchEntity, notJoinable, noSuchSide}
+use Rattle.frames.specs.Refusals.{shortOutput, noSuchEntity, notJoinable, noSuchSide}
 use Rattle.frames.specs.Kinds.{ofRow, describe}
 use Rattle.frames.specs.Rows.{lineOfRow}
 use Rattle.reader.specs.Lines.{linesOf}
 use Rattle.reader.specs.States.{parse}
-use Rattle.covers.specs.Least.{SearchResult, found, none}
+use Rattle.covers.specs.Least.{SearchResult}
 use Rattle.verdicts.specs.Verdicts.{verdictOn}
-use Rattle.mesh.specs.Verdicts.{meshOn}
+use Rattle.calls.specs.Rows.{hasRow, onRow}
 use Rattle.kinds.specs.Entries.{entries}
 use Rattle.listing.specs.Bytes.{bytes}
 use Rattle.striking.specs.Texts.{struckText}
 
 -- ---- conditions
-
--- "no such row"
-abbrev pub hasRow : ℕ → Table → Check
-hasRow k t = or-else (ltb k (length (t .rows))) noSuchRow
 
 -- "a or b no entity"
 abbrev pub hasEntity : ℕ → Table → Check
@@ -73,26 +69,11 @@ lineIn text k t = getD (linesOf text) (linesBefore 1 t + k) []
 unfoldable pub linePart : List ℕ → ℕ → List ℕ
 linePart text k = valueOr [] (callOn (λ t. hasRow k t ∷ []) (lineIn text k) (parse text))
 
--- ---- Witness, the mesh, and Winner
-
--- The answer of a call on row k, if there is such a row.
-abbrev pub onRow : {A : Type 0} → (Table → ℕ → A) → List ℕ → ℕ → Answer A
-onRow value text k = callOn (λ t. hasRow k t ∷ []) (λ t. value t k) (parse text)
-
--- "either dead, or the least packet": the verdict on the row, in these words.
-abbrev pub saysDead : Answer SearchResult
-saysDead = returned none
-
-abbrev pub givesPacket : Packet → Answer SearchResult
-givesPacket p = returned (found p)
+-- ---- Witness and Winner
 
 -- "Witness, of a row: either dead, or the least packet for which the row wins the probe with its own s and d."
 unfoldable pub witnessOf : List ℕ → ℕ → Answer SearchResult
 witnessOf text k = onRow verdictOn text k
-
--- Document 02, [8]: "a call beside Witness, whose search it doesn't use, with the same refusals".
-unfoldable pub meshOf : List ℕ → ℕ → Answer SearchResult
-meshOf text k = onRow meshOn text k
 
 -- "the winning row or none"
 pub data RowOrNobody : Type 0 where

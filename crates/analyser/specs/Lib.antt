@@ -1,10 +1,4 @@
--- Document 01, "The six calls", and document 02: what each call answers, as a function of its arguments, and what is promised of it.
+-- Document 01, "The six calls", and document 02: what each call answers, as a function of its arguments, and what its contract says.
 pub mod Calls
 pub mod Views
-pub mod RelationPromises
-pub mod Promises
-pub mod JoinPromises
-pub mod PrefixPromises
-pub mod AddedRowPromises
-pub mod MeshPromises
-pub mod Examples
+pub mod Contracts

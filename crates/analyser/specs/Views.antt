@@ -1,17 +1,13 @@
--- The code's enums of answers: the number and the values of each case, in document 01's terms.
+-- The code's enums of answers: the number and the values of each case, in document 01's terms. (That of Witness and Mesh is in `calls`.)
 -- Assumes nothing.
 use Prim.Native.Nat.{ℕ}
 use Rattle.base.specs.Answers.{Answer, returned, refusedBy}
 use Rattle.base.specs.declared.Written.{Written}
 use Rattle.base.specs.declared.Written.the-variants.{Count as Whole, Short}
-use Rattle.policy.specs.Views.{packetOf}
 use Rattle.frames.specs.Refusals.{shortOutput}
-use Rattle.covers.specs.Least.{SearchResult}
-use Rattle.analyser.specs.Calls.{TableCounts, saysDead, givesPacket, RowOrNobody, winningRow, nobodyWins}
+use Rattle.analyser.specs.Calls.{TableCounts, RowOrNobody, winningRow, nobodyWins}
 use Rattle.analyser.specs.declared.Checked.{Checked}
 use Rattle.analyser.specs.declared.Checked.the-variants.{Counts, Refused as CheckRefused}
-use Rattle.analyser.specs.declared.Witness.{Witness}
-use Rattle.analyser.specs.declared.Witness.the-variants.{Dead, Packet, Refused as WitnessRefused}
 use Rattle.analyser.specs.declared.Winner.{Winner}
 use Rattle.analyser.specs.declared.Winner.the-variants.{Row, Nobody, Refused as WinnerRefused}
 use Rattle.analyser.specs.declared.Counted.{Counted}
@@ -20,11 +16,6 @@ use Rattle.analyser.specs.declared.Counted.the-variants.{Count, Refused 
 abbrev pub checkAnswer : Checked → Answer TableCounts
 checkAnswer (Counts entities filters rows) = returned (record { entities = entities; filters = filters; rows = rows })
 checkAnswer (CheckRefused number line) = refusedBy number line
-
-abbrev pub witnessAnswer : Witness → Answer SearchResult
-witnessAnswer Dead = saysDead
-witnessAnswer (Packet p) = givesPacket (packetOf p)
-witnessAnswer (WitnessRefused number line) = refusedBy number line
 
 abbrev pub winnerAnswer : Winner → Answer RowOrNobody
 winnerAnswer (Row i) = returned (winningRow i)

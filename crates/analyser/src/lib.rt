@@ -1,18 +1,17 @@
-// The analyser's calls. Each takes the text of a table, and leaves it unchanged. A text that is refused gives its own refusal; else the
-// conditions that a call asks follow in the documents' order: 9, 10, 11, 12, 8.
+// The analyser's calls, but for Mesh, which stands in `mesh_call`. Each takes the text of a table, and leaves it unchanged. A text that is refused
+// gives its own refusal; else the conditions that a call asks follow in the documents' order: 9, 10, 11, 12, 8.
 
 ghost use mathlib.Core.Path.{_≡_};
-ghost use Rattle.base.specs.Answers.{returned, refusedBy};
-ghost use Rattle.covers.specs.Views.{resultOf};
-ghost use Rattle.policy.specs.Views.{packetOf};
-ghost use Rattle.analyser.specs.Calls.{checkOf, linePart, witnessOf, meshOf, winnerOf, listOf, listWritten, packed, strikeOf, strikeWritten, joinOf, joinWritten, prefixesOf, prefixesWritten};
-ghost use Rattle.analyser.specs.Views.{checkAnswer, witnessAnswer, winnerAnswer, countAnswer, roomAnswer};
+ghost use Rattle.base.specs.Answers.{refusedBy};
+ghost use Rattle.analyser.specs.Calls.{linePart, listOf, listWritten, packed, strikeWritten, joinWritten, prefixesWritten};
+ghost use Rattle.analyser.specs.Views.{countAnswer, roomAnswer};
+ghost use Rattle.analyser.specs.Contracts.{CheckAnswers, WitnessAnswers, WinnerAnswers, ListAnswers, StrikeAnswers, JoinAnswers, PrefixesAnswers};
 use base::Written;
-use covers::Found;
+use calls::Witness;
+use calls::tell;
 use frames::refusals;
 use frames::row;
 use frames::widths::ADDRESS;
-use policy::selector::Packet;
 use policy::table;
 use relations::group;
 use relations::group::Outcome;
@@ -31,13 +30,6 @@ pub enum Checked {
     },
 }
 
-// What Witness and Mesh answer: that the row is dead, its least packet, or a refusal.
-pub enum Witness {
-    Dead,
-    Packet(Packet),
-    Refused { number: u8, line: u8 },
-}
-
 // What a call that writes answers: how many it wrote, things of a list (List, Prefixes) or bytes of lines (Strike, Join), or a refusal.
 pub enum Counted {
     Count(usize),
@@ -53,7 +45,7 @@ pub enum Winner {
 
 // Check: the counts of entities, filters and rows of the text's table, or its refusal.
 pub fn check(text: &[u8]) -> Checked
-    ensures { λ r. ⌜ checkAnswer r ≡ checkOf (now (text .entry)) ⌝ }
+    ensures { λ r. ⌜ CheckAnswers (now (text .entry)) r ⌝ }
 {
     let r = reader::read(text);
     if r.number != 0 {
@@ -84,19 +76,9 @@ pub fn line(text: &[u8], k: usize) -> &[u8]
     reader::nth_line(text, before + k)
 }
 
-// What is answered of a row: its packet, or that it is dead.
-fn tell(found: Found) -> Witness
-    ensures { λ r. ⌜ witnessAnswer r ≡ returned (resultOf found) ⌝ }
-{
-    match found {
-        Found::Packet(p) => Witness::Packet(p),
-        Found::Nothing => Witness::Dead,
-    }
-}
-
 // Witness: that row k is dead, or the least packet for which it wins the probe with its own source and destination.
 pub fn witness_of(text: &[u8], k: usize) -> Witness
-    ensures { λ r. ⌜ witnessAnswer r ≡ witnessOf (now (text .entry)) k ⌝ }
+    ensures { λ r. ⌜ WitnessAnswers (now (text .entry)) k r ⌝ }
 {
     let r = reader::read(text);
     if r.number != 0 {
@@ -112,26 +94,6 @@ pub fn witness_of(text: &[u8], k: usize) -> Witness
         };
     }
     tell(verdicts::judge(&r.table.parents, &r.table.heads, &r.table.bounds, k))
-}
-
-// Mesh: what Witness answers, by another method: the least packets of the cells into which the boxes that could cover row k cut its own.
-pub fn mesh_of(text: &[u8], k: usize) -> Witness
-    ensures { λ r. ⌜ witnessAnswer r ≡ meshOf (now (text .entry)) k ⌝ }
-{
-    let r = reader::read(text);
-    if r.number != 0 {
-        return Witness::Refused {
-            number: r.number,
-            line: r.line,
-        };
-    }
-    if r.table.rows <= k {
-        return Witness::Refused {
-            number: refusals::NO_SUCH_ROW,
-            line: 0,
-        };
-    }
-    tell(mesh::judge(&r.table.parents, &r.table.heads, &r.table.bounds, k))
 }
 
 // What is answered of a result that is written where there is room: how many it is, or that the output is shorter.
@@ -150,7 +112,7 @@ fn count_written(w: Written) -> Counted
 // List: writes the entries of the table's anomalies into out from its start, three bytes each in ascending order: first row, kind, second
 // number. Returns their count. The rest of out is unchanged, and all of it where there is a refusal.
 pub fn list(text: &[u8], out: &mut [u8]) -> Counted
-    ensures answers { λ r. ⌜ countAnswer r ≡ listOf (now (text .entry)) (now (out .entry)) ⌝ }
+    ensures answers { λ r. ⌜ ListAnswers (now (text .entry)) (now (out .entry)) r ⌝ }
     ensures writes { λ _. ⌜ now (out .exit) ≡ listWritten (now (text .entry)) (now (out .entry)) ⌝ }
 {
     let r = reader::read(text);
@@ -195,7 +157,7 @@ pub extern "C" fn lainukesk_list(text: &[u8], out: &mut [u8]) -> u64
 // Strike: writes the text without its dead rows' lines into out from its start. Returns its length. The rest of out is unchanged, and all of
 // it where there is a refusal.
 pub fn strike(text: &[u8], out: &mut [u8]) -> Counted
-    ensures answers { λ r. ⌜ countAnswer r ≡ strikeOf (now (text .entry)) (now (out .entry)) ⌝ }
+    ensures answers { λ r. ⌜ StrikeAnswers (now (text .entry)) (now (out .entry)) r ⌝ }
     ensures writes { λ _. ⌜ now (out .exit) ≡ strikeWritten (now (text .entry)) (now (out .entry)) ⌝ }
 {
     let r = reader::read(text);
@@ -211,7 +173,7 @@ pub fn strike(text: &[u8], out: &mut [u8]) -> Counted
 // Join: writes the line of the row that rows i and j are joined to into out from its start, in capitals and without line feed. Returns its length.
 // The rest of out is unchanged, and all of it where there is a refusal.
 pub fn join(text: &[u8], i: usize, j: usize, out: &mut [u8]) -> Counted
-    ensures answers { λ r. ⌜ countAnswer r ≡ joinOf (now (text .entry)) i j (now (out .entry)) ⌝ }
+    ensures answers { λ r. ⌜ JoinAnswers (now (text .entry)) i j (now (out .entry)) r ⌝ }
     ensures writes { λ _. ⌜ now (out .exit) ≡ joinWritten (now (text .entry)) i j (now (out .entry)) ⌝ }
 {
     let r = reader::read(text);
@@ -248,7 +210,7 @@ pub fn join(text: &[u8], i: usize, j: usize, out: &mut [u8]) -> Counted
 // Prefixes: writes the prefixes of row k's source addresses (side 0) or destination addresses (side 1) into out from its start, ascending: four bytes
 // of the address, most significant first, and the length. Returns their count. The rest of out is unchanged, and all of it where there is a refusal.
 pub fn prefixes(text: &[u8], k: usize, side: u8, out: &mut [u8]) -> Counted
-    ensures answers { λ r. ⌜ countAnswer r ≡ prefixesOf (now (text .entry)) k side (now (out .entry)) ⌝ }
+    ensures answers { λ r. ⌜ PrefixesAnswers (now (text .entry)) k side (now (out .entry)) r ⌝ }
     ensures writes { λ _. ⌜ now (out .exit) ≡ prefixesWritten (now (text .entry)) k side (now (out .entry)) ⌝ }
 {
     let r = reader::read(text);
@@ -277,7 +239,7 @@ pub fn prefixes(text: &[u8], k: usize, side: u8, out: &mut [u8]) -> Counted
 
 // Winner: the row that wins the probe in the group that row k names, or nobody.
 pub fn winner_of(text: &[u8], k: usize, p: Probe) -> Winner
-    ensures { λ r. ⌜ winnerAnswer r ≡ winnerOf (now (text .entry)) k (p .source) (p .destination) (packetOf (p .packet)) ⌝ }
+    ensures { λ r. ⌜ WinnerAnswers (now (text .entry)) k p r ⌝ }
 {
     let r = reader::read(text);
     if r.number != 0 {

@@ -15,7 +15,7 @@ ghost use Rattle.io.specs.Counts.{Counts};
 use analyser::Checked;
 use analyser::Counted;
 use analyser::Winner;
-use analyser::Witness;
+use calls::Witness;
 use libc::STDOUT_FILENO;
 use policy::number::Number;
 use policy::selector::Packet;
@@ -148,7 +148,7 @@ fn put_row(text: &[u8], k: usize, call: RowCall) {
     match call {
         RowCall::Line => put_line(text, k),
         RowCall::Witness => put_witness(analyser::witness_of(text, k)),
-        RowCall::Mesh => put_witness(analyser::mesh_of(text, k)),
+        RowCall::Mesh => put_witness(mesh_call::mesh_of(text, k)),
     }
 }
 

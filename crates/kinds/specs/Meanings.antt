@@ -8,7 +8,7 @@ use mathlib.Core.List.{List, [], _∷_, _++_, map, List·Memᴰ}
 use lib.ListN.{length, getD}
 use Rattle.policy.specs.Model.{Table, dropping, passing, entityAt, filterAt, rowAt, parentOf}
 use Rattle.relations.specs.Entities.{AtOrAbove, rootOf}
-use Rattle.relations.specs.Technologies.{layerOf, Dominates}
+use Rattle.relations.specs.Technologies.{HasLayer, Dominates}
 use Rattle.relations.specs.Coefficients.{AtLeast}
 use Rattle.relations.specs.Selectors.{Contains, Overlap, MeetAll, exchange}
 use Rattle.relations.specs.Groups.{SameGroup}
@@ -99,7 +99,7 @@ module _ (t : Table) where
 
   -- "15 layer two: t has layer 2 and G isn't empty."
   pub record LayerTwo (i : ℕ) : Type 0 where
-    pub layer : layerOf (rowAt t i .technology) ≡ 2
+    pub layer : HasLayer (rowAt t i .technology) 2
     pub gateways : rowAt t i .gateways ≡ [] → ⊥
 
   -- Row j answers row i: "sj = di, dj = si, Cj = Ci, and Sj equal to Si with source and destination fields exchanged".

@@ -1,5 +1,6 @@
 -- The laws of cuts and cells, and those of the functions.
 pub mod Cuts
+pub mod Corners
 pub mod Cells
 pub mod Nearest
 pub mod Filled

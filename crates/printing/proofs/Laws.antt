@@ -3,4 +3,5 @@ pub mod Lines
 pub mod Printed
 pub mod Answers
 pub mod Rooms
+pub mod Inputs
 pub mod Letters

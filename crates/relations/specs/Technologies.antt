@@ -11,8 +11,16 @@ use Rattle.relations.specs.Relations.{relationBy}
 use Rattle.relations.specs.declared.relation.Relation.{Relation}
 use Rattle.relations.specs.declared.relation.Relation.the-variants.{Equal, Above, Below, Kin, Disjoint}
 
--- The layer of a technology; NULL has none, and 0 stands there. Technologies are the numbers up to 6, and a table has no others; of numbers
--- above them nothing is claimed.
+-- The technology t has the layer l. NULL has none.
+pub data HasLayer : ℕ → ℕ → Type 0 where
+  wpa2 : HasLayer 1 2
+  macsec : HasLayer 2 2
+  ipsec : HasLayer 3 3
+  tls : HasLayer 4 5
+  ssh : HasLayer 5 5
+  ws-security : HasLayer 6 7
+
+-- The layer of a technology, as a number: 0 where there is none, of NULL and of numbers above 6, which are no technologies and stand in no table.
 unfoldable pub layerOf : ℕ → ℕ
 layerOf t = getD (0 ∷ 2 ∷ 2 ∷ 3 ∷ 5 ∷ 5 ∷ 7 ∷ []) t 0
 

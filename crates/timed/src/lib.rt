@@ -1,10 +1,11 @@
 // What the benchmark calls: a text and rows' numbers in, a number out.
 ghost use mathlib.Core.Path.{_≡_};
-ghost use Rattle.analyser.specs.Calls.{checkOf, witnessOf, meshOf, packed, strikeOf, strikeWritten, joinOf, joinWritten, prefixesOf, prefixesWritten};
-ghost use Rattle.analyser.specs.Views.{witnessAnswer};
+ghost use Rattle.calls.specs.Views.{witnessAnswer};
+ghost use Rattle.mesh_call.specs.Calls.{meshOf};
+ghost use Rattle.analyser.specs.Calls.{checkOf, witnessOf, packed, strikeOf, strikeWritten, joinOf, joinWritten, prefixesOf, prefixesWritten};
 ghost use Rattle.timed.specs.Codes.{checkCode, witnessCode};
 use analyser::Checked;
-use analyser::Witness;
+use calls::Witness;
 
 // 0 if the text is accepted, else 1.
 #[no_mangle]
@@ -45,7 +46,7 @@ pub extern "C" fn timed_witness(text: &[u8], k: usize) -> u64
 pub extern "C" fn timed_mesh(text: &[u8], k: usize) -> u64
     ensures { λ n. ⌜ n ≡ witnessCode (meshOf (now (text .entry)) k) ⌝ }
 {
-    code(analyser::mesh_of(text, k))
+    code(mesh_call::mesh_of(text, k))
 }
 
 // The length of the struck text, or the refusal as one number. Writes what Strike writes.

@@ -1,5 +1,5 @@
 -- Laws of the calls that return a value of an accepted text's row: for a row that is there Line's answer is the line that says the row, as it was
--- written, Witness's the verdict, the mesh call's that of the mesh, and Winner's the winner; Winner's other answers, by what is not there.
+-- written, Witness's the verdict, and Winner's the winner; Winner's other answers, by what is not there.
 -- Assumes nothing.
 use mathlib.Core.Path.{_≡_, refl, ap, _∙_}
 use mathlib.Core.Logic.{_↔_, inl, inr}
@@ -22,8 +22,9 @@ use Rattle.reader.specs.Lines.{linesOf}
 use Rattle.reader.specs.States.{parse}
 use Rattle.reader.proofs.Laws.Rows.{RowLine, accepted-lines, accepted-row}
 use Rattle.verdicts.specs.Verdicts.{verdictOn}
-use Rattle.mesh.specs.Verdicts.{meshOn}
-use Rattle.analyser.specs.Calls.{hasRow, hasEntity, linePart, onRow, witnessOf, meshOf, RowOrNobody, winningRow, nobodyWins, outcomeOf, winnerOf}
+use Rattle.calls.specs.Rows.{hasRow}
+use Rattle.calls.proofs.Laws.Texts.{row-answered}
+use Rattle.analyser.specs.Calls.{hasEntity, linePart, witnessOf, RowOrNobody, winningRow, nobodyWins, outcomeOf, winnerOf}
 
 module _ (text : List ℕ) (t : Table) (e : parse text ≡ returned t) (k : ℕ) where
   module _ (h : k < length (t .rows)) where
@@ -38,17 +39,9 @@ module _ (text : List ℕ) (t : Table) (e : parse text ≡ returned t) (k : ℕ)
     pub line-row : RowLine t (linePart text k) (rowAt t k)
     line-row = rw line-written (accepted-row text t e k h)
 
-    -- A call on a row answers of it.
-    pub row-answered : {A : Type 0} (value : Table → ℕ → A) → onRow value text k ≡ returned (value t k)
-    row-answered value = rw e (rw (lt-ltb k (length (t .rows)) h))
-
     pub witness-verdict : witnessOf text k ≡ returned (verdictOn t k)
     unfolding witnessOf
-    witness-verdict = row-answered verdictOn
-
-    pub mesh-verdict : meshOf text k ≡ returned (meshOn t k)
-    unfolding meshOf
-    mesh-verdict = row-answered meshOn
+    witness-verdict = row-answered verdictOn text k t e h
 
   module _ (a b : ℕ) (p : Packet) where
     -- What Winner asks.

@@ -19,7 +19,8 @@ use Rattle.reader.specs.States.{parse}
 use Rattle.reader.proofs.Laws.Letters.{lines-case, parse-case}
 use Rattle.striking.specs.Texts.{struckText}
 use Rattle.striking.proofs.Laws.Letters.{struck-case}
-use Rattle.analyser.specs.Calls.{hasRow, lineIn, linePart, writing, noConditions, strikeOf, strikeWritten}
+use Rattle.calls.specs.Rows.{hasRow}
+use Rattle.analyser.specs.Calls.{lineIn, linePart, writing, noConditions, strikeOf, strikeWritten}
 
 -- ---- a call that writes one of two such results
 

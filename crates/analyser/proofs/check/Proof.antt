@@ -2,7 +2,7 @@
 use borrow.Author.Needs.{needs}
 use Rattle.reader.proofs.Laws.Readers.{table-sized}
 use Rattle.analyser.specs.Calls.{checkOf}
-use Rattle.analyser.proofs.Laws.Texts.{text-refused, accepted}
+use Rattle.calls.proofs.Laws.Texts.{text-refused, accepted}
 use Rattle.analyser.proofs.check.Statement.{statement}
 use Rattle.analyser.proofs.check.Tie as tie
 

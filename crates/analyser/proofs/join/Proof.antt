@@ -26,7 +26,7 @@ use Rattle.reader.proofs.Laws.Readers.{table-sized}
 use Rattle.analyser.specs.Calls.{joinedLine, joinOf, joinWritten}
 use Rattle.analyser.specs.Views.{roomAnswer}
 use Rattle.analyser.proofs.Laws.Joins.{join-refused, join-no-row, join-differ, join-writes}
-use Rattle.analyser.proofs.Laws.Texts.{Accepted, text-refused, accepted}
+use Rattle.calls.proofs.Laws.Texts.{Accepted, text-refused, accepted}
 use Rattle.analyser.proofs.join.Statement.{statement}
 use Rattle.analyser.proofs.join.Tie as tie
 

@@ -5,7 +5,7 @@ use native.Mathlib.Omega.{arith}
 use denote.Ref.{now}
 use Rattle.reader.proofs.Laws.Readers.{table-sized}
 use Rattle.analyser.specs.Calls.{linePart}
-use Rattle.analyser.proofs.Laws.Texts.{Accepted, text-refused, accepted}
+use Rattle.calls.proofs.Laws.Texts.{Accepted, text-refused, accepted}
 use Rattle.analyser.proofs.line.Statement.{statement}
 use Rattle.analyser.proofs.line.Tie as tie
 

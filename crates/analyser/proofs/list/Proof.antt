@@ -9,7 +9,7 @@ use Rattle.listing.specs.Bytes.{bytes}
 use Rattle.analyser.specs.Calls.{noConditions, listOf, listWritten}
 use Rattle.analyser.specs.Views.{roomAnswer}
 use Rattle.analyser.proofs.Laws.Outputs.{call-writes}
-use Rattle.analyser.proofs.Laws.Texts.{Accepted, text-refused, accepted}
+use Rattle.calls.proofs.Laws.Texts.{Accepted, text-refused, accepted}
 use Rattle.analyser.proofs.list.Statement.{statement}
 use Rattle.analyser.proofs.list.Tie as tie
 

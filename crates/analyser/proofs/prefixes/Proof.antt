@@ -18,7 +18,7 @@ use Rattle.reader.proofs.Laws.Readers.{table-sized}
 use Rattle.analyser.specs.Calls.{prefixesOf, prefixesWritten}
 use Rattle.analyser.specs.Views.{roomAnswer}
 use Rattle.analyser.proofs.Laws.Prefixes.{prefixes-refused, prefixes-no-row, prefixes-no-side, prefixes-writes, side-fits}
-use Rattle.analyser.proofs.Laws.Texts.{Accepted, text-refused, accepted}
+use Rattle.calls.proofs.Laws.Texts.{Accepted, text-refused, accepted}
 use Rattle.analyser.proofs.prefixes.Statement.{statement}
 use Rattle.analyser.proofs.prefixes.Tie as tie
 

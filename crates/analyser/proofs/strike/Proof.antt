@@ -8,7 +8,7 @@ use Rattle.striking.specs.Texts.{struckText}
 use Rattle.analyser.specs.Calls.{noConditions, strikeOf, strikeWritten}
 use Rattle.analyser.specs.Views.{roomAnswer}
 use Rattle.analyser.proofs.Laws.Outputs.{call-writes}
-use Rattle.analyser.proofs.Laws.Texts.{Accepted, text-refused, accepted}
+use Rattle.calls.proofs.Laws.Texts.{Accepted, text-refused, accepted}
 use Rattle.analyser.proofs.strike.Statement.{statement}
 use Rattle.analyser.proofs.strike.Tie as tie
 

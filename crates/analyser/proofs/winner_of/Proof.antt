@@ -14,7 +14,7 @@ use Rattle.relations.proofs.Laws.Tables.{lent-parents}
 use Rattle.reader.proofs.Laws.Readers.{table-sized}
 use Rattle.analyser.specs.Calls.{outcomeOf, winnerOf}
 use Rattle.analyser.proofs.Laws.Calls.{winner-no-row, winner-no-entity, winner-found}
-use Rattle.analyser.proofs.Laws.Texts.{Accepted, text-refused, accepted}
+use Rattle.calls.proofs.Laws.Texts.{Accepted, text-refused, accepted}
 use Rattle.analyser.proofs.winner_of.Statement.{statement}
 use Rattle.analyser.proofs.winner_of.Tie as tie
 

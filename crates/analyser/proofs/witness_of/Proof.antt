@@ -13,7 +13,7 @@ use Rattle.verdicts.specs.Verdicts.{verdictOn, verdictIn}
 use Rattle.verdicts.proofs.Laws.Tables.{lent-verdict}
 use Rattle.analyser.specs.Calls.{witnessOf}
 use Rattle.analyser.proofs.Laws.Calls.{witness-verdict}
-use Rattle.analyser.proofs.Laws.Texts.{Accepted, accepted, row-refused, row-missing}
+use Rattle.calls.proofs.Laws.Texts.{Accepted, accepted, row-refused, row-missing}
 use Rattle.analyser.proofs.witness_of.Statement.{statement}
 use Rattle.analyser.proofs.witness_of.Tie as tie
 

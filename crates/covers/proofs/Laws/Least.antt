@@ -28,7 +28,7 @@ sized-member n (c ∷ bs) s b m = elim (List·Memᴰ·cases-cons m) [ inl e ↦ 
 -- ---- one right answer
 
 -- Two packets of which each is at most the other are the same.
-antisym : {p q : Packet} → p ≤ₚ q → q ≤ₚ p → p ≡ q
+pub antisym : {p q : Packet} → p ≤ₚ q → q ≤ₚ p → p ≡ q
 antisym done done = refl
 antisym (less h) (less k) = absurd (omega arith)
 antisym (less h) (same e k) = absurd (omega arith)

@@ -16,6 +16,7 @@ use Rattle.relations.specs.Selectors.{Contains, Overlap}
 use Rattle.relations.specs.Groups.{Dead}
 use Rattle.base.proofs.Laws.Decides.{decides-true, decides-false, decides-as, decides-and, decides-or, decides-not, decides-eqb, decided}
 use Rattle.base.proofs.Laws.Members.{among-decides, same-decides, Some, some-decides}
+use Rattle.relations.proofs.Laws.Technologies.{has-layer}
 use Rattle.relations.proofs.Laws.Coefficients.{atLeast-decides}
 use Rattle.relations.proofs.Laws.Selectors.{contains-decides, overlaps-decides, sameSelector-decides}
 use Rattle.covers.specs.Least.{SearchResult, found, none}
@@ -114,7 +115,8 @@ module _ (t : Table) (w : Wellformed t) where
   pub layerTwo-decides : (i : ℕ) → Decides (layerTwo (rowAt t i)) (LayerTwo t i)
   unfolding layerTwo
   layerTwo-decides i =
-      decides-as (λ e. record { layer = e .0; gateways = e .1 }) (λ e. (e .layer, e .gateways))
+      let two = has-layer (rowAt t i .technology) 2 in
+      decides-as (λ e. record { layer = two .1 (e .0, λ z. omega arith); gateways = e .1 }) (λ e. (two .0 (e .layer) .0, e .gateways))
       (decides-and _ _ (decides-eqb _ 2) (decides-not _ (empty-decides (rowAt t i .gateways))))
 
   answers-decides : (j i : ℕ) → IsRow t j → Decides (answers (rowAt t j) (rowAt t i)) (Answers t j i)

@@ -14,15 +14,16 @@ use Rattle.policy.specs.Model.{Range, Selector, Packet, noRange}
 use Rattle.policy.specs.Wellformed.{Ordered}
 use Rattle.relations.specs.Ranges.{Within}
 use Rattle.relations.specs.Selectors.{lows, Holds, holds}
-use Rattle.covers.specs.Least.{found, _≤ₚ_, done, less, same, Claimed, Least, Right}
+use Rattle.covers.specs.Least.{SearchResult, found, none, _≤ₚ_, done, less, same, Claimed, Least, Right}
 use Rattle.base.proofs.Laws.Decides.{decides-false, decides-as, decides-or, decided}
 use Rattle.base.proofs.Laws.Ascending.{one-ascends, append-ascends, map-ascends}
 use Rattle.base.proofs.Laws.Lists.{length-none}
 use Rattle.relations.proofs.Laws.Selectors.{holds-both, holds-first, holds-rest, not-longer, not-shorter, holds-decides, lows-in}
-use Rattle.covers.proofs.Laws.Least.{EachSized, sized-member}
+use Rattle.covers.proofs.Laws.Least.{EachSized, sized-member, antisym}
 use Rattle.mesh.specs.Mesh.{cuts, intervals, firsts, rests, each, cells, claimed, firstFree, mesh}
-use Rattle.mesh.specs.Promises.{Cells}
+use Rattle.mesh.specs.Promises.{Cut, CutInEach, FirstUnclaimed, Cells}
 use Rattle.mesh.proofs.Laws.Cuts.{first-least, cuts-laws, cuts-first, same-side}
+use Rattle.mesh.proofs.Laws.Corners.{corner-nil, corner-both, corner-first, corner-rest}
 
 -- ---- intervals
 
@@ -116,6 +117,14 @@ module _ (r : Range) (qs : List Range) (o : r .low ≤ r .high) where
       let f = cuts-first r qs o in
       intervals-cover (r .high) x (cuts r qs) (f .0) (omega (arith, w .low, f .1)) (w .high)
 
+  -- Each cut begins a part.
+  part-at : (x : ℕ) → Cut r qs x → (v : Range) × List·Memᴰ v (parts r qs) × (x ≡ v .low)
+  part-at x c =
+      let f = part-with x (c .inside) in
+      let w = f .2 in
+      let h = part-of (f .0) (f .1) .free x (cuts-laws r qs o .exact x .1 c) (w .high) in
+      (f .0, f .1, omega arith)
+
   -- Each number of a part is in the range.
   part-inside : (v : Range) (x : ℕ) → List·Memᴰ v (parts r qs) → Within v x → Within r x
   part-inside v x m w =
@@ -192,9 +201,21 @@ cell-with (r ∷ s) bs o (x ∷ p) h =
       holds-both (v .0) (d .0) x p (v .2) (d .2),
     )
 
--- Of a cell: no low is above its high, its packets are in the row, and all of them are in the same of the boxes.
+-- Each corner is the packet of the lows of a cell.
+cell-at : (s : Selector) (bs : List Selector) → Ordered s → (p : Packet) → CutInEach s bs p → (c : Selector) × List·Memᴰ c (cells s bs) × (p ≡ lows c)
+unfolding cells
+cell-at [] bs o [] k = ([], List·Memᴰ·head refl, refl)
+cell-at [] bs o (x ∷ p) k = absurd (omega (arith, k .count))
+cell-at (r ∷ s) bs o [] k = absurd (omega (arith, k .count))
+cell-at (r ∷ s) bs o (x ∷ p) k =
+    let v = part-at r (firsts bs) (o .0) x (corner-first r s bs x p k) in
+    let d = cell-at s (rests bs) (o .1) p (corner-rest r s bs x p k) in
+    (v .0 ∷ d .0, each-in (parts r (firsts bs)) (cells s (rests bs)) (v .0) (d .0) (v .1) (d .1), cc (v .2, d .2))
+
+-- Of a cell: no low is above its high, the lows are a corner, its packets are in the row, and all of them are in the same of the boxes.
 record Cell (s : Selector) (bs : List Selector) (c : Selector) : Type 0 where
   ordered : Ordered c
+  corner : CutInEach s bs (lows c)
   inside : (p : Packet) → Holds c p → Holds s p
   alike : (b : Selector) (p q : Packet) → List·Memᴰ b bs → Holds c p → Holds c q → Holds b p → Holds b q
 
@@ -202,6 +223,7 @@ record Cell (s : Selector) (bs : List Selector) (c : Selector) : Type 0 where
 cell-nil : (bs : List Selector) → EachSized 0 bs → Cell [] bs []
 cell-nil bs n = record {
   ordered = tt;
+  corner = corner-nil bs;
   inside = λ p h. h;
   alike = λ b p q m hp hq h. subst (λ d. Holds d q) (sym (length-none b (sized-member 0 bs n b m))) hq;
 }
@@ -210,7 +232,13 @@ cell-nil bs n = record {
 cell-cons : (r : Range) (s : Selector) (bs : List Selector) (o : r .low ≤ r .high) → EachSized (suc (length s)) bs → (v : Range) (d : Selector)
     → List·Memᴰ v (parts r (firsts bs)) → Cell s (rests bs) d → Cell (r ∷ s) bs (v ∷ d)
 cell-cons r s bs o n v d i rest =
-    record { ordered = (part-of r (firsts bs) o v i .proper, rest .ordered); inside = inside; alike = λ b p q m. alike b p q (sized-member (suc (length s)) bs n b m) m }
+    let part = part-of r (firsts bs) o v i in
+    record {
+      ordered = (part .proper, rest .ordered);
+      corner = corner-both r s bs (v .low) (lows d) (cuts-laws r (firsts bs) o .exact (v .low) .0 (part .starts)) (rest .corner);
+      inside = inside;
+      alike = λ b p q m. alike b p q (sized-member (suc (length s)) bs n b m) m;
+    }
   where
     inside : (p : Packet) → Holds (v ∷ d) p → Holds (r ∷ s) p
     inside [] h = absurd (not-shorter v d h)
@@ -330,20 +358,48 @@ module _ (s : Selector) (bs : List Selector) where
       go true d rest = rest (left-further c cs (cell c (List·Memᴰ·head refl)) left (d .yes refl))
       go false d rest = lows-first c cs (cell c (List·Memᴰ·head refl)) a left (d .no refl)
 
--- Of a row and boxes with as many fields: all that is promised of the cells.
-pub cells-laws : (s : Selector) (bs : List Selector) → Ordered s → EachSized (length s) bs → Cells s bs
-unfolding mesh
-cells-laws s bs o n = record {
-  whole = λ p. (cell-with s bs o p, λ h. cell (h .0) (h .1) .inside p (h .2));
-  alike = λ c b p q m. cell c m .alike b p q;
-  least = λ c m. (lows-cell s bs c (cell c m), lows-least c);
-  ascend = cells-ascend s bs o;
-  decides = (
-    λ h. let f = cell-with s bs o (h .0) (h .1) in (f .0, f .1, λ m. h .2 (claims-spread s bs (f .0) (h .0) (cell (f .0) (f .1)) (f .2) m)),
-    λ h. let k = cell (h .0) (h .1) in (lows (h .0), k .inside (lows (h .0)) (lows-cell s bs (h .0) k), h .2),
-  );
-  right = firstFree-right s bs (cells s bs) (cells-ascend s bs o) cell (λ p h m. cell-with s bs o p h);
-}
-  where
-    cell : (c : Selector) → List·Memᴰ c (cells s bs) → Cell s bs c
-    cell = cell-of s bs o n
+-- ---- what is promised of a row and boxes with as many fields
+
+module _ (s : Selector) (bs : List Selector) (o : Ordered s) (n : EachSized (length s) bs) where
+  cell : (c : Selector) → List·Memᴰ c (cells s bs) → Cell s bs c
+  cell = cell-of s bs o n
+
+  -- The least packet of a cell is in the row,
+  lows-inside : (c : Selector) → List·Memᴰ c (cells s bs) → Holds s (lows c)
+  lows-inside c m = cell c m .inside (lows c) (lows-cell s bs c (cell c m))
+
+  -- and so is each corner.
+  corner-inside : (p : Packet) → CutInEach s bs p → Holds s p
+  corner-inside p k = let f = cell-at s bs o p k in rw (f .2) (lows-inside (f .0) (f .1))
+
+  -- A packet of the row that is in no box is in a cell whose least packet is in none.
+  free-cell : (p : Packet) → Holds s p → (Claimed bs p → ⊥) → (c : Selector) × List·Memᴰ c (cells s bs) × Holds c p × (Claimed bs (lows c) → ⊥)
+  free-cell p h u = let f = cell-with s bs o p h in (f .0, f .1, f .2, λ m. u (claims-spread s bs (f .0) p (cell (f .0) (f .1)) (f .2) m))
+
+  -- So the least packet of the row that is in no box is a corner, and a right answer is the first corner that is in none.
+  right-first : (a : SearchResult) → Right s bs a → FirstUnclaimed s bs a
+  right-first (found p) m =
+      let f = free-cell p (m .inside) (m .unclaimed) in
+      let e : p ≡ lows (f .0) = antisym (m .least (lows (f .0)) (lows-inside (f .0) (f .1)) (f .3)) (lows-least (f .0) p (f .2)) in
+      (rw e (cell (f .0) (f .1) .corner), m .unclaimed, λ q k. m .least q (corner-inside q k))
+  right-first none m = λ q k. m q (corner-inside q k)
+
+  mesh-right : Right s bs (mesh s bs)
+  unfolding mesh
+  mesh-right = firstFree-right s bs (cells s bs) (cells-ascend s bs o) cell (λ p h m. cell-with s bs o p h)
+
+  -- All that is promised of the cells.
+  pub cells-laws : Cells s bs
+  cells-laws = record {
+    whole = λ p. (cell-with s bs o p, λ h. cell (h .0) (h .1) .inside p (h .2));
+    alike = λ c b p q m. cell c m .alike b p q;
+    least = λ c m. (lows-cell s bs c (cell c m), lows-least c);
+    corners = λ p. (λ h. rw (h .2) (cell (h .0) (h .1) .corner), cell-at s bs o p);
+    ascend = cells-ascend s bs o;
+    decides = (
+      λ h. let f = free-cell (h .0) (h .1) (h .2) in (f .0, f .1, f .3),
+      λ h. (lows (h .0), lows-inside (h .0) (h .1), h .2),
+    );
+    first = right-first (mesh s bs) mesh-right;
+    right = mesh-right;
+  }

@@ -11,7 +11,7 @@ use lib.Dec.{eqb, ltb}
 use lib.ListN.{List·getD-eq-default}
 use Rattle.base.specs.Truths.{Decides}
 use Rattle.relations.specs.Relations.{OneOfFive}
-use Rattle.relations.specs.Technologies.{layerOf, Dominates, dominates, KinTechnologies, DisjointTechnologies, TechnologiesStand, technologyRelation}
+use Rattle.relations.specs.Technologies.{HasLayer, wpa2, macsec, ipsec, tls, ssh, ws-security, layerOf, Dominates, dominates, KinTechnologies, DisjointTechnologies, TechnologiesStand, technologyRelation}
 use Rattle.base.proofs.Laws.Decides.{decides-as, decides-eqb, decides-ltb, decides-not, decides-and, decided}
 use Rattle.relations.proofs.Laws.Relations.{Exclusive, found, only}
 
@@ -34,19 +34,35 @@ layer-five (suc (suc (suc (suc zero)))) h k = refl
 layer-five (suc (suc (suc (suc (suc zero))))) h k = refl
 layer-five (suc (suc (suc (suc (suc (suc t)))))) h k = absurd (omega arith)
 
-pub layer-three : layerOf 3 ≡ 3
-unfolding layerOf
-layer-three = refl
-
-pub layer-seven : layerOf 6 ≡ 7
-unfolding layerOf
-layer-seven = refl
-
 -- NULL, and what is no technology.
 pub layer-none : (t : ℕ) → (t ≡ 0) ⊎ (7 ≤ t) → layerOf t ≡ 0
 unfolding layerOf
 layer-none t (inl h) = rw h
 layer-none t (inr h) = List·getD-eq-default (0 ∷ 2 ∷ 2 ∷ 3 ∷ 5 ∷ 5 ∷ 7 ∷ []) 0 h
+
+-- A technology has just the layer that `layerOf` gives it, where that is one.
+layer-numbered : (t l : ℕ) → HasLayer t l → (layerOf t ≡ l) × (l ≡ 0 → ⊥)
+unfolding layerOf
+layer-numbered t l wpa2 = (refl, λ e. omega arith)
+layer-numbered t l macsec = (refl, λ e. omega arith)
+layer-numbered t l ipsec = (refl, λ e. omega arith)
+layer-numbered t l tls = (refl, λ e. omega arith)
+layer-numbered t l ssh = (refl, λ e. omega arith)
+layer-numbered t l ws-security = (refl, λ e. omega arith)
+
+layer-named : (t : ℕ) → (layerOf t ≡ 0 → ⊥) → HasLayer t (layerOf t)
+unfolding layerOf
+layer-named zero n = absurd (n refl)
+layer-named (suc zero) n = wpa2
+layer-named (suc (suc zero)) n = macsec
+layer-named (suc (suc (suc zero))) n = ipsec
+layer-named (suc (suc (suc (suc zero)))) n = tls
+layer-named (suc (suc (suc (suc (suc zero))))) n = ssh
+layer-named (suc (suc (suc (suc (suc (suc zero)))))) n = ws-security
+layer-named (suc (suc (suc (suc (suc (suc (suc t))))))) n = absurd (n refl)
+
+pub has-layer : (t l : ℕ) → HasLayer t l ↔ ((layerOf t ≡ l) × (l ≡ 0 → ⊥))
+has-layer t l = (layer-numbered t l, λ h. rw (sym (h .0)) (layer-named t (λ e. h .1 (sym (h .0) ∙ e))))
 
 -- ---- ≻
 
@@ -115,16 +131,36 @@ module _ (t u : ℕ) where
   pub one-technology-relation : OneOfFive (TechnologiesStand t u)
   one-technology-relation = only (TechnologiesStand t u) exclusive (technologyRelation t u) technologyRelation-holds
 
-  -- ---- by layers, of two that are not NULL
+-- ---- by layers
 
-  module _ (n : t ≡ 0 → ⊥) (m : u ≡ 0 → ⊥) where
-    pub dominates-layers : Dominates t u ↔ (layerOf t < layerOf u)
-    dominates-layers = (λ d. d .layer, λ l. record { upper = n; lower = m; layer = l })
+-- What has a layer is not NULL.
+layered-not-null : (t l : ℕ) → HasLayer t l → t ≡ 0 → ⊥
+layered-not-null t l h e = layer-numbered t l h .1 (sym (layer-numbered t l h .0) ∙ layer-none t (inl e))
 
-    pub kin-layers : KinTechnologies t u ↔ ((t ≡ u → ⊥) × (layerOf t ≡ layerOf u))
-    kin-layers = (λ k. (k .different, k .layer), λ h. record { one = n; other = m; different = h .0; layer = h .1 })
+module _ (t u l m : ℕ) (h : HasLayer t l) (k : HasLayer u m) where
+  pub dominates-layers : Dominates t u ↔ (l < m)
+  dominates-layers =
+      let a = layer-numbered t l h .0 in
+      let b = layer-numbered u m k .0 in
+      (λ d. let c = d .layer in omega arith, λ c. record { upper = layered-not-null t l h; lower = layered-not-null u m k; layer = omega arith })
+
+  pub kin-layers : KinTechnologies t u ↔ ((t ≡ u → ⊥) × (l ≡ m))
+  kin-layers =
+      let a = layer-numbered t l h .0 in
+      let b = layer-numbered u m k .0 in (
+        λ c. (c .different, sym a ∙ c .layer ∙ b),
+        λ c. record { one = layered-not-null t l h; other = layered-not-null u m k; different = c .0; layer = a ∙ c .1 ∙ sym b },
+      )
+
+-- A technology has one layer.
+pub one-layer : (t l m : ℕ) → HasLayer t l → HasLayer t m → l ≡ m
+one-layer t l m h k = sym (layer-numbered t l h .0) ∙ layer-numbered t m k .0
 
 -- ---- NULL
+
+-- It has no layer.
+pub null-no-layer : (l : ℕ) → HasLayer 0 l → ⊥
+null-no-layer l h = layered-not-null 0 l h refl
 
 -- It is disjoint from every other technology, and neither dominates nor is dominated.
 module _ (t : ℕ) where

@@ -1,6 +1,6 @@
 -- `code` meets its contract: each variant has its number. Assumes nothing.
 use mathlib.Core.Path.{sym, ap}
-use Rattle.analyser.specs.Views.{witnessAnswer}
+use Rattle.calls.specs.Views.{witnessAnswer}
 use Rattle.timed.specs.Codes.{witnessCode}
 use Rattle.timed.proofs.code.Statement.{statement}
 use Rattle.timed.proofs.code.Tie as tie

@@ -37,7 +37,7 @@ module _ (t : Table) (w : Wellformed t) (i : ℕ) (row : i < length (t .rows)) w
   -- No packet with which the row wins a probe is claimed.
   won-unclaimed : (a b : ℕ) (p : Packet) → Wins t i a b p → Claimed (coverOn t i) p → ⊥
   won-unclaimed a b p o c =
-      let h = claimed-hidden t i p c in
+      let h = claimed-hidden t i row p c in
       let k = h .1 in
       wins-own t (table-tree t w) i a b p o .first (h .0) (k .earlier) (k .group)
       (record { source = k .source; destination = k .destination; packet = k .packet })

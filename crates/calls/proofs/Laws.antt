@@ -1,0 +1,3 @@
+-- The laws that crates above cite.
+pub mod Texts
+pub mod Cases

@@ -1,0 +1,2 @@
+-- Document 02, [8]: what the call Mesh answers, as a function of its arguments.
+pub mod Calls

@@ -1,0 +1,20 @@
+-- The proofs of the promises, a file for each of specs/.
+pub mod ReadingPromises
+pub mod AnswerPromises
+pub mod RelationPromises
+pub mod Caps
+pub mod Layers
+pub mod Devices
+pub mod OneRow
+pub mod TwoRows
+pub mod FilterLaws
+pub mod KindPromises
+pub mod ListPromises
+pub mod RowPromises
+pub mod LetterPromises
+pub mod JoinPromises
+pub mod PrefixPromises
+pub mod AddedRowPromises
+pub mod MeshPromises
+pub mod ProgramPromises
+pub mod Examples
