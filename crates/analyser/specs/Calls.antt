@@ -1,5 +1,5 @@
--- Document 01, "The six calls", and document 02, [2] and [5]: the answers of the calls, and their outputs, for every input. Each is a call on what reading the
--- text gives: the text's refusal, else that of the first condition that is broken, else a value. "The first faulty line counts ..; then 9, 10, 8."
+-- Document 01, "The six calls", and document 02, [2] and [5]: the answers of the calls, and their outputs, for every input. Each is a call on x, what reading
+-- the text gives: the text's refusal, else that of the first condition that is broken, else a value. Where lines are handed back, it takes the text too. "The first faulty line counts ..; then 9, 10, 8."
 -- Assumes nothing.
 use Prim.Native.Nat.{ℕ, _+_, _*_}
 use mathlib.Core.List.{List, [], _∷_, _++_}
@@ -21,7 +21,7 @@ use Rattle.frames.specs.Refusals.{shortOutput, noSuchEntity, notJoinable, noSuc
 use Rattle.frames.specs.Kinds.{ofRow, describe}
 use Rattle.frames.specs.Rows.{lineOfRow}
 use Rattle.reader.specs.Lines.{linesOf}
-use Rattle.reader.specs.States.{parse}
+use Rattle.reader.specs.States.{Parsed}
 use Rattle.covers.specs.Least.{SearchResult}
 use Rattle.verdicts.specs.Verdicts.{verdictOn}
 use Rattle.calls.specs.Rows.{hasRow, onRow}
@@ -58,22 +58,22 @@ pub record TableCounts : Type 0 where
 abbrev pub countsOf : Table → TableCounts
 countsOf t = record { entities = length (t .entities); filters = length (t .filters); rows = length (t .rows) }
 
-unfoldable pub checkOf : List ℕ → Answer TableCounts
-checkOf text = callOn (λ t. []) countsOf (parse text)
+unfoldable pub checkOf : Answer Parsed → Answer TableCounts
+checkOf x = callOn (λ r. []) (λ r. countsOf (r .table)) x
 
 -- Row k's line is the one after those before the rows, and k rows.
 abbrev pub lineIn : List ℕ → ℕ → Table → List ℕ
 lineIn text k t = getD (linesOf text) (linesBefore 1 t + k) []
 
 -- "Line, of a row: that part of the caller's own text, without line feed. Any refusal gives the empty part and no number."
-unfoldable pub linePart : List ℕ → ℕ → List ℕ
-linePart text k = valueOr [] (callOn (λ t. hasRow k t ∷ []) (lineIn text k) (parse text))
+unfoldable pub linePart : List ℕ → Answer Parsed → ℕ → List ℕ
+linePart text x k = valueOr [] (onRow (λ t i. lineIn text i t) x k)
 
 -- ---- Witness and Winner
 
 -- "Witness, of a row: either dead, or the least packet for which the row wins the probe with its own s and d."
-unfoldable pub witnessOf : List ℕ → ℕ → Answer SearchResult
-witnessOf text k = onRow verdictOn text k
+unfoldable pub witnessOf : Answer Parsed → ℕ → Answer SearchResult
+witnessOf x k = onRow verdictOn x k
 
 -- "the winning row or none"
 pub data RowOrNobody : Type 0 where
@@ -85,33 +85,34 @@ outcomeOf (Won i) = winningRow i
 outcomeOf Nobody = nobodyWins
 
 -- "Winner, of a row naming the group and a probe: the winning row or none."
-unfoldable pub winnerOf : List ℕ → ℕ → ℕ → ℕ → Packet → Answer RowOrNobody
-winnerOf text k a b p =
-    callOn (λ t. hasRow k t ∷ hasEntity a t ∷ hasEntity b t ∷ []) (λ t. outcomeOf (winner t k a b p)) (parse text)
+unfoldable pub winnerOf : Answer Parsed → (k a b : ℕ) → Packet → Answer RowOrNobody
+winnerOf x k a b p =
+    callOn (λ r. hasRow k (r .table) ∷ hasEntity a (r .table) ∷ hasEntity b (r .table) ∷ []) (λ r. outcomeOf (winner (r .table) k a b p)) x
 
 -- ---- List and Strike
 
 -- The answer of a call that writes its value, as the bytes `result` gives: these conditions first, and last that the output has room.
-abbrev pub writing : {A : Type 0} → (Table → List Check) → (A → List ℕ) → (Table → A) → List ℕ → Answer Table → Answer A
-writing conditions result value out x = callOn (λ t. conditions t ++ (hasRoom (result (value t)) out ∷ [])) value x
+abbrev pub writing : {A : Type 0} → (Table → List Check) → (A → List ℕ) → (Table → A) → List ℕ → Answer Parsed → Answer A
+writing conditions result value out x =
+    callOn (λ r. conditions (r .table) ++ (hasRoom (result (value (r .table))) out ∷ [])) (λ r. value (r .table)) x
 
 -- No conditions.
 abbrev pub noConditions : Table → List Check
 noConditions t = []
 
 -- "List writes three bytes an entry (first row, kind, second number) in ascending order, .. and returns the count."
-unfoldable pub listOf : List ℕ → List ℕ → Answer ℕ
-listOf text out = told length (writing noConditions bytes entries out (parse text))
+unfoldable pub listOf : Answer Parsed → List ℕ → Answer ℕ
+listOf x out = told length (writing noConditions bytes entries out x)
 
-unfoldable pub listWritten : List ℕ → List ℕ → List ℕ
-listWritten text out = wrote bytes (writing noConditions bytes entries out (parse text)) out
+unfoldable pub listWritten : Answer Parsed → List ℕ → List ℕ
+listWritten x out = wrote bytes (writing noConditions bytes entries out x) out
 
 -- "Strike writes the text without its dead rows' lines and returns its length."
-unfoldable pub strikeOf : List ℕ → List ℕ → Answer ℕ
-strikeOf text out = told length (writing noConditions (λ l. l) (struckText text) out (parse text))
+unfoldable pub strikeOf : List ℕ → Answer Parsed → List ℕ → Answer ℕ
+strikeOf text x out = told length (writing noConditions (λ l. l) (struckText text) out x)
 
-unfoldable pub strikeWritten : List ℕ → List ℕ → List ℕ
-strikeWritten text out = wrote (λ l. l) (writing noConditions (λ l. l) (struckText text) out (parse text)) out
+unfoldable pub strikeWritten : List ℕ → Answer Parsed → List ℕ → List ℕ
+strikeWritten text x out = wrote (λ l. l) (writing noConditions (λ l. l) (struckText text) out x) out
 
 -- ---- Join
 
@@ -128,11 +129,11 @@ abbrev pub joinConditions : ℕ → ℕ → Table → List Check
 joinConditions i j t = hasRow i t ∷ hasRow j t ∷ canJoin i j t ∷ []
 
 -- "Given two row numbers, the call writes one row line .. It returns the length, .. what lies past a result stays unchanged."
-unfoldable pub joinOf : List ℕ → ℕ → ℕ → List ℕ → Answer ℕ
-joinOf text i j out = told length (writing (joinConditions i j) (λ l. l) (joinedLine i j) out (parse text))
+unfoldable pub joinOf : Answer Parsed → (i j : ℕ) → List ℕ → Answer ℕ
+joinOf x i j out = told length (writing (joinConditions i j) (λ l. l) (joinedLine i j) out x)
 
-unfoldable pub joinWritten : List ℕ → ℕ → ℕ → List ℕ → List ℕ
-joinWritten text i j out = wrote (λ l. l) (writing (joinConditions i j) (λ l. l) (joinedLine i j) out (parse text)) out
+unfoldable pub joinWritten : Answer Parsed → (i j : ℕ) → List ℕ → List ℕ
+joinWritten x i j out = wrote (λ l. l) (writing (joinConditions i j) (λ l. l) (joinedLine i j) out x) out
 
 -- ---- Prefixes
 
@@ -149,12 +150,12 @@ abbrev pub prefixConditions : ℕ → ℕ → Table → List Check
 prefixConditions k side t = hasRow k t ∷ hasSide side ∷ []
 
 -- "write the range's prefixes .., with the count returned"
-unfoldable pub prefixesOf : List ℕ → ℕ → ℕ → List ℕ → Answer ℕ
-prefixesOf text k side out = told length (writing (prefixConditions k side) (prefixBytes addressBytes) (rowPrefixes k side) out (parse text))
+unfoldable pub prefixesOf : Answer Parsed → (k side : ℕ) → List ℕ → Answer ℕ
+prefixesOf x k side out = told length (writing (prefixConditions k side) (prefixBytes addressBytes) (rowPrefixes k side) out x)
 
-unfoldable pub prefixesWritten : List ℕ → ℕ → ℕ → List ℕ → List ℕ
-prefixesWritten text k side out =
-    wrote (prefixBytes addressBytes) (writing (prefixConditions k side) (prefixBytes addressBytes) (rowPrefixes k side) out (parse text)) out
+unfoldable pub prefixesWritten : Answer Parsed → (k side : ℕ) → List ℕ → List ℕ
+prefixesWritten x k side out =
+    wrote (prefixBytes addressBytes) (writing (prefixConditions k side) (prefixBytes addressBytes) (rowPrefixes k side) out x) out
 
 -- ---- List for C
 

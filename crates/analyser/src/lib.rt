@@ -3,6 +3,7 @@
 
 ghost use mathlib.Core.Path.{_≡_};
 ghost use Rattle.base.specs.Answers.{refusedBy};
+ghost use Rattle.reader.specs.States.{parse};
 ghost use Rattle.analyser.specs.Calls.{linePart, listOf, listWritten, packed, strikeWritten, joinWritten, prefixesWritten};
 ghost use Rattle.analyser.specs.Views.{countAnswer, roomAnswer};
 ghost use Rattle.analyser.specs.Contracts.{CheckAnswers, WitnessAnswers, WinnerAnswers, ListAnswers, StrikeAnswers, JoinAnswers, PrefixesAnswers};
@@ -45,7 +46,7 @@ pub enum Winner {
 
 // Check: the counts of entities, filters and rows of the text's table, or its refusal.
 pub fn check(text: &[u8]) -> Checked
-    ensures { λ r. ⌜ CheckAnswers (now (text .entry)) r ⌝ }
+    ensures { λ r. ⌜ CheckAnswers (parse (now (text .entry))) r ⌝ }
 {
     let r = reader::read(text);
     if r.number != 0 {
@@ -63,7 +64,7 @@ pub fn check(text: &[u8]) -> Checked
 
 // Line: the part of the text that is row k's line, without its line feed. The empty part where the text is refused or has no such row.
 pub fn line(text: &[u8], k: usize) -> &[u8]
-    ensures { λ r. ⌜ now r ≡ linePart (now (text .entry)) k ⌝ }
+    ensures { λ r. ⌜ now r ≡ linePart (now (text .entry)) (parse (now (text .entry))) k ⌝ }
 {
     let r = reader::read(text);
     if r.number != 0 {
@@ -78,7 +79,7 @@ pub fn line(text: &[u8], k: usize) -> &[u8]
 
 // Witness: that row k is dead, or the least packet for which it wins the probe with its own source and destination.
 pub fn witness_of(text: &[u8], k: usize) -> Witness
-    ensures { λ r. ⌜ WitnessAnswers (now (text .entry)) k r ⌝ }
+    ensures { λ r. ⌜ WitnessAnswers (parse (now (text .entry))) k r ⌝ }
 {
     let r = reader::read(text);
     if r.number != 0 {
@@ -112,8 +113,8 @@ fn count_written(w: Written) -> Counted
 // List: writes the entries of the table's anomalies into out from its start, three bytes each in ascending order: first row, kind, second
 // number. Returns their count. The rest of out is unchanged, and all of it where there is a refusal.
 pub fn list(text: &[u8], out: &mut [u8]) -> Counted
-    ensures answers { λ r. ⌜ ListAnswers (now (text .entry)) (now (out .entry)) r ⌝ }
-    ensures writes { λ _. ⌜ now (out .exit) ≡ listWritten (now (text .entry)) (now (out .entry)) ⌝ }
+    ensures answers { λ r. ⌜ ListAnswers (parse (now (text .entry))) (now (out .entry)) r ⌝ }
+    ensures writes { λ _. ⌜ now (out .exit) ≡ listWritten (parse (now (text .entry))) (now (out .entry)) ⌝ }
 {
     let r = reader::read(text);
     if r.number != 0 {
@@ -148,8 +149,8 @@ pub fn packed_count(answer: Counted) -> u64
 // List for C, which writes what `list` writes: the count, or the refusal as one number. The layout of the arguments is in include/lainukesk.h.
 #[no_mangle]
 pub extern "C" fn lainukesk_list(text: &[u8], out: &mut [u8]) -> u64
-    ensures answers { λ n. ⌜ n ≡ packed (listOf (now (text .entry)) (now (out .entry))) ⌝ }
-    ensures writes { λ _. ⌜ now (out .exit) ≡ listWritten (now (text .entry)) (now (out .entry)) ⌝ }
+    ensures answers { λ n. ⌜ n ≡ packed (listOf (parse (now (text .entry))) (now (out .entry))) ⌝ }
+    ensures writes { λ _. ⌜ now (out .exit) ≡ listWritten (parse (now (text .entry))) (now (out .entry)) ⌝ }
 {
     packed_count(list(text, out))
 }
@@ -157,8 +158,8 @@ pub extern "C" fn lainukesk_list(text: &[u8], out: &mut [u8]) -> u64
 // Strike: writes the text without its dead rows' lines into out from its start. Returns its length. The rest of out is unchanged, and all of
 // it where there is a refusal.
 pub fn strike(text: &[u8], out: &mut [u8]) -> Counted
-    ensures answers { λ r. ⌜ StrikeAnswers (now (text .entry)) (now (out .entry)) r ⌝ }
-    ensures writes { λ _. ⌜ now (out .exit) ≡ strikeWritten (now (text .entry)) (now (out .entry)) ⌝ }
+    ensures answers { λ r. ⌜ StrikeAnswers (now (text .entry)) (parse (now (text .entry))) (now (out .entry)) r ⌝ }
+    ensures writes { λ _. ⌜ now (out .exit) ≡ strikeWritten (now (text .entry)) (parse (now (text .entry))) (now (out .entry)) ⌝ }
 {
     let r = reader::read(text);
     if r.number != 0 {
@@ -173,8 +174,8 @@ pub fn strike(text: &[u8], out: &mut [u8]) -> Counted
 // Join: writes the line of the row that rows i and j are joined to into out from its start, in capitals and without line feed. Returns its length.
 // The rest of out is unchanged, and all of it where there is a refusal.
 pub fn join(text: &[u8], i: usize, j: usize, out: &mut [u8]) -> Counted
-    ensures answers { λ r. ⌜ JoinAnswers (now (text .entry)) i j (now (out .entry)) r ⌝ }
-    ensures writes { λ _. ⌜ now (out .exit) ≡ joinWritten (now (text .entry)) i j (now (out .entry)) ⌝ }
+    ensures answers { λ r. ⌜ JoinAnswers (parse (now (text .entry))) i j (now (out .entry)) r ⌝ }
+    ensures writes { λ _. ⌜ now (out .exit) ≡ joinWritten (parse (now (text .entry))) i j (now (out .entry)) ⌝ }
 {
     let r = reader::read(text);
     if r.number != 0 {
@@ -210,8 +211,8 @@ pub fn join(text: &[u8], i: usize, j: usize, out: &mut [u8]) -> Counted
 // Prefixes: writes the prefixes of row k's source addresses (side 0) or destination addresses (side 1) into out from its start, ascending: four bytes
 // of the address, most significant first, and the length. Returns their count. The rest of out is unchanged, and all of it where there is a refusal.
 pub fn prefixes(text: &[u8], k: usize, side: u8, out: &mut [u8]) -> Counted
-    ensures answers { λ r. ⌜ PrefixesAnswers (now (text .entry)) k side (now (out .entry)) r ⌝ }
-    ensures writes { λ _. ⌜ now (out .exit) ≡ prefixesWritten (now (text .entry)) k side (now (out .entry)) ⌝ }
+    ensures answers { λ r. ⌜ PrefixesAnswers (parse (now (text .entry))) k side (now (out .entry)) r ⌝ }
+    ensures writes { λ _. ⌜ now (out .exit) ≡ prefixesWritten (parse (now (text .entry))) k side (now (out .entry)) ⌝ }
 {
     let r = reader::read(text);
     if r.number != 0 {
@@ -239,7 +240,7 @@ pub fn prefixes(text: &[u8], k: usize, side: u8, out: &mut [u8]) -> Counted
 
 // Winner: the row that wins the probe in the group that row k names, or nobody.
 pub fn winner_of(text: &[u8], k: usize, p: Probe) -> Winner
-    ensures { λ r. ⌜ WinnerAnswers (now (text .entry)) k p r ⌝ }
+    ensures { λ r. ⌜ WinnerAnswers (parse (now (text .entry))) k p r ⌝ }
 {
     let r = reader::read(text);
     if r.number != 0 {

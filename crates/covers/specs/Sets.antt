@@ -7,9 +7,10 @@ use mathlib.Core.List.{List}
 use lib.ListN.{getD}
 use Rattle.base.specs.Bits.{marked}
 use Rattle.policy.specs.Limits.{mostSelectors}
-use Rattle.policy.specs.Model.{Range}
+use Rattle.policy.specs.Model.{Range, Selector, Packet}
 use Rattle.policy.specs.Views.{rangeIn}
 use Rattle.relations.specs.Ranges.{Within}
+use Rattle.relations.specs.Selectors.{Holds}
 
 -- The box at place k is in the set.
 abbrev pub In : ℕ → ℕ → Type 0
@@ -28,3 +29,13 @@ pub record Narrowed (field : ℕ → Range) (P : ℕ → Type 0) (v : ℕ) (Q : 
   pub part : (k : ℕ) → Q k → P k
   pub holds : (k : ℕ) → Q k → Within (field k) v
   pub all : (k : ℕ) → P k → Within (field k) v → Q k
+
+-- One of the boxes that are chosen has the packet.
+pub record HeldBy (box : ℕ → Selector) (chosen : ℕ → Type 0) (q : Packet) : Type 0 where
+  pub place : ℕ
+  pub choice : chosen place
+  pub holds : Holds (box place) q
+
+-- The set is a cover of s: together its boxes hold every packet of s.
+abbrev pub CoveredBy : (ℕ → Selector) → Selector → ℕ → Type 0
+CoveredBy box s set = (q : Packet) → Holds s q → HeldBy box (In set) q

@@ -6,11 +6,13 @@ use mathlib.Core.List.{List, map}
 use lib.ListN.{getD, take, drop, length}
 use Rattle.policy.specs.Limits.{mostRows, mostSelectors}
 use Rattle.policy.specs.Model.{Selector}
-use Rattle.policy.specs.Views.{packetOf, selectorIn}
+use Rattle.policy.specs.Views.{value, packetOf, selectorIn}
 use Rattle.covers.specs.Least.{SearchResult, found, none}
 use Rattle.covers.specs.declared.Boxes.{Boxes}
 use Rattle.covers.specs.declared.Found.{Found}
 use Rattle.covers.specs.declared.Found.the-variants.{Packet, Nothing}
+use Rattle.covers.specs.declared.Next.{Next}
+use Rattle.covers.specs.declared.Next.the-variants.{Value, End}
 
 -- What is left of the selector at k past its first f fields.
 abbrev pub boxAt : List ℕ → ℕ → ℕ → Selector
@@ -35,3 +37,13 @@ pub record BoxesAre (bounds : List ℕ) (a : Boxes) (f : ℕ) (bs : List Selecto
 abbrev pub resultOf : Found → SearchResult
 resultOf (Packet p) = found (packetOf p)
 resultOf Nothing = none
+
+-- The value of a field that comes next, or that the field is at its end.
+pub data NextValue : Type 0 where
+  comes : ℕ → NextValue
+  end : NextValue
+
+-- What the code's next value stands for.
+abbrev pub nextOf : Next → NextValue
+nextOf (Value n) = comes (value n)
+nextOf End = end

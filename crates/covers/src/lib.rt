@@ -8,6 +8,7 @@ ghost use Rattle.covers.specs.Views.{BoxesAre};
 ghost use Rattle.covers.specs.Covers.{covers as coversTest, Asked, coverIn};
 use base::bit;
 use policy::limits::ROWS;
+use policy::number::Number;
 use policy::row::Row;
 use policy::selector::Packet;
 use policy::table;
@@ -27,6 +28,12 @@ pub struct Boxes {
 pub enum Found {
     Packet(Packet),
     Nothing,
+}
+
+// The next value of a field, or that there is none.
+pub enum Next {
+    Value(Number),
+    End,
 }
 
 // Whether q is of r's group and ⪰ it in source and destination.

@@ -7,9 +7,9 @@ use lib.ListN.{length, getD}
 use Rattle.policy.specs.Model.{Coefficients, Filter, Table, entityAt, filterAt, parentOf}
 use Rattle.policy.specs.Views.{parentIn, rowIn, rowsIn, selectorIn, selectorOf, filterIn}
 use Rattle.policy.specs.declared.selector.Selector.{Selector as SelectorStruct}
-use Rattle.verdicts.specs.Verdicts.{verdictAfter, isNone}
+use Rattle.verdicts.specs.Verdicts.{verdictAfter, isNone, dead}
 use Rattle.kinds.specs.Views.{Placed, placedAt, placedIn, fromIn, toIn, visitedOf}
-use Rattle.kinds.specs.Tests.{pairOf, dead, goesOn, chains, alternativePath}
+use Rattle.kinds.specs.Tests.{pairOf, goesOn, chains, alternativePath}
 use Rattle.kinds.specs.declared.pair.Pair.{Pair}
 use Rattle.kinds.specs.declared.path.Visited.{Visited}
 

@@ -12,7 +12,6 @@ use Rattle.relations.specs.Technologies.{layerOf, dominates}
 use Rattle.relations.specs.Coefficients.{atLeast}
 use Rattle.relations.specs.Selectors.{contains, overlaps, inhabited, meet, exchange, sameSelector}
 use Rattle.relations.specs.Groups.{sameGroup}
-use Rattle.verdicts.specs.Verdicts.{verdictOn, isNone}
 use Rattle.kinds.specs.Views.{Placed, placedAt}
 use Rattle.kinds.specs.declared.pair.Pair.{Pair}
 
@@ -222,7 +221,3 @@ filterRedundancy f g =
 
 abbrev pub pairAt : Table → ℕ → ℕ → Pair
 pairAt t i j = pairOf (parentOf t) i j (placedAt t i) (placedAt t j)
-
--- 20, dead.
-abbrev pub dead : Table → ℕ → Bool
-dead t i = isNone (verdictOn t i)

@@ -11,40 +11,31 @@ use Rattle.base.specs.Truths.{pick}
 use Rattle.base.specs.Lists.{tabulate}
 use Rattle.policy.specs.Limits.{mostRows, mostSelectors, fieldCount}
 use Rattle.policy.specs.Model.{Range}
-use Rattle.policy.specs.Views.{value, rangeIn, selectorIn}
+use Rattle.policy.specs.Views.{rangeIn, selectorIn}
 use Rattle.policy.specs.Wellformed.{Ordered}
 use Rattle.covers.specs.Sets.{In, fieldOf, Narrowed}
+use Rattle.covers.specs.Views.{NextValue, comes, end}
 use Rattle.mesh.specs.Mesh.{cuts}
-use Rattle.mesh.specs.declared.cuts.Next.{Next}
-use Rattle.mesh.specs.declared.cuts.Next.the-variants.{Cut, End}
 
 -- ---- the next cut
 
-pub data NextCut : Type 0 where
-  cut : ℕ → NextCut
-  end : NextCut
-
-abbrev pub nextOf : Next → NextCut
-nextOf (Cut x) = cut (value x)
-nextOf End = end
-
 -- The nearer of a cut before x and one that is known.
-abbrev pub nearerOf : ℕ → NextCut → NextCut
-nearerOf x (cut w) = cut (min w x)
-nearerOf x end = cut x
+abbrev pub nearerOf : ℕ → NextValue → NextValue
+nearerOf x (comes w) = comes (min w x)
+nearerOf x end = comes x
 
 -- The same, where x is past v and not past the end of the range.
-abbrev pub withCut : Range → ℕ → ℕ → NextCut → NextCut
+abbrev pub withCut : Range → ℕ → ℕ → NextValue → NextValue
 withCut r v x n = pick (ltb v x && leb x (r .high)) (nearerOf x n) n
 
 -- The cut, or v where there is none.
-abbrev pub reachedOf : NextCut → ℕ → ℕ
-reachedOf (cut w) v = w
+abbrev pub reachedOf : NextValue → ℕ → ℕ
+reachedOf (comes w) v = w
 reachedOf end v = v
 
 -- n is the next after v of the numbers C.
-abbrev pub Nearest : (ℕ → Type 0) → ℕ → NextCut → Type 0
-Nearest C v (cut w) = C w × (v < w) × ((x : ℕ) → C x → v < x → w ≤ x)
+abbrev pub Nearest : (ℕ → Type 0) → ℕ → NextValue → Type 0
+Nearest C v (comes w) = C w × (v < w) × ((x : ℕ) → C x → v < x → w ≤ x)
 Nearest C v end = (x : ℕ) → C x → v < x → ⊥
 
 -- ---- the cuts of a field

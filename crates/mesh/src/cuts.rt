@@ -6,8 +6,10 @@ ghost use lib.ListN.{length, getD};
 ghost use Rattle.policy.specs.Limits.{fieldCount};
 ghost use Rattle.policy.specs.Views.{value, rangeOf};
 ghost use Rattle.relations.specs.Ranges.{Within};
+ghost use Rattle.covers.specs.Views.{nextOf};
 ghost use Rattle.mesh.specs.Promises.{Cut};
-ghost use Rattle.mesh.specs.Views.{nextOf, nearerOf, withCut, Nearest, fieldsOf, reachedOf, cutsOf, Listed, AskedField, setCount, Written};
+ghost use Rattle.mesh.specs.Views.{nearerOf, withCut, Nearest, fieldsOf, reachedOf, cutsOf, Listed, AskedField, setCount, Written};
+use covers::Next;
 use covers::set;
 use covers::set::Numbers;
 use policy::limits::FIELDS;
@@ -23,19 +25,13 @@ pub const CUTS: usize = 2 * ROWS + 1;
 // For each field, from place CUTS times its number on, the set of boxes that have each of its intervals.
 pub type Sets = [u64; FIELDS * CUTS];
 
-// The cut after another.
-pub enum Next {
-    Cut(Number),
-    End,
-}
-
 // The nearer cut: x, or the one that was the nearest so far.
 fn nearer(next: Next, x: Number) -> Next
     ensures { λ r. ⌜ nextOf r ≡ nearerOf (value x) (nextOf next) ⌝ }
 {
     match next {
-        Next::Cut(w) => Next::Cut(w.lesser(x)),
-        Next::End => Next::Cut(x),
+        Next::Value(w) => Next::Value(w.lesser(x)),
+        Next::End => Next::Value(x),
     }
 }
 
@@ -86,7 +82,7 @@ fn reached(next: Next, v: Number) -> Number
     ensures { λ r. ⌜ value r ≡ reachedOf (nextOf next) (value v) ⌝ }
 {
     match next {
-        Next::Cut(w) => w,
+        Next::Value(w) => w,
         Next::End => v,
     }
 }
@@ -122,9 +118,9 @@ pub fn fill(
     let all = set::first(count);
     let low = r.low;
     let mut n = 0;
-    let mut next = Next::Cut(low);
+    let mut next = Next::Value(low);
     loop {
-        let Next::Cut(v) = next else {
+        let Next::Value(v) = next else {
             return n;
         };
         sets[CUTS * f + n] = set::holding(bounds, at, f, v, all);

@@ -2,17 +2,17 @@
 -- Assumes nothing.
 use Prim.Native.Nat.{ℕ}
 use mathlib.Core.Path.{_≡_}
-use mathlib.Core.List.{List}
 use Rattle.base.specs.Answers.{Answer}
+use Rattle.reader.specs.States.{Parsed}
 use Rattle.covers.specs.Least.{SearchResult}
 use Rattle.mesh.specs.Verdicts.{meshOn}
 use Rattle.calls.specs.Rows.{onRow}
 use Rattle.calls.specs.Views.{witnessAnswer}
 use Rattle.calls.specs.declared.Witness.{Witness}
 
-unfoldable pub meshOf : List ℕ → ℕ → Answer SearchResult
-meshOf text k = onRow meshOn text k
+unfoldable pub meshOf : Answer Parsed → ℕ → Answer SearchResult
+meshOf x k = onRow meshOn x k
 
--- What the call's contract says of its answer.
-abbrev pub MeshAnswers : List ℕ → ℕ → Witness → Type 0
-MeshAnswers text k r = witnessAnswer r ≡ meshOf text k
+-- What the call's contract says of its answer, x being what reading the text gives.
+abbrev pub MeshAnswers : Answer Parsed → ℕ → Witness → Type 0
+MeshAnswers x k r = witnessAnswer r ≡ meshOf x k

@@ -12,7 +12,7 @@ use Rattle.base.specs.Outputs.{fits, written}
 use Rattle.policy.specs.Model.{Table}
 use Rattle.reader.specs.Lines.{lineFeed}
 use Rattle.base.specs.Answers.{Answer, returned, refusedBy}
-use Rattle.reader.specs.States.{parse}
+use Rattle.reader.specs.States.{Parsed, parse}
 use Rattle.kinds.specs.Entries.{Entry, entries}
 use Rattle.striking.specs.Texts.{struckText}
 use Rattle.printing.specs.Limits.{mostInput}
@@ -42,14 +42,14 @@ hexLines (a ∷ b ∷ []) = []
 hexLines (a ∷ b ∷ c ∷ rest) = entryLine a b c ++ hexLines rest
 
 -- What is printed of a text, given what is printed of its table.
-abbrev pub printedOf : (Table → List ℕ) → Answer Table → List ℕ
-printedOf ofTable (returned t) = ofTable t
+abbrev pub printedOf : (Table → List ℕ) → Answer Parsed → List ℕ
+printedOf ofTable (returned r) = ofTable (r .table)
 printedOf ofTable (refusedBy number line) = refusalLine number line
 
-unfoldable pub listPrinted : Answer Table → List ℕ
+unfoldable pub listPrinted : Answer Parsed → List ℕ
 listPrinted x = printedOf (λ t. entryLines (entries t)) x
 
-unfoldable pub struckPrinted : List ℕ → Answer Table → List ℕ
+unfoldable pub struckPrinted : List ℕ → Answer Parsed → List ℕ
 struckPrinted text x = printedOf (struckText text) x
 
 -- What is printed of an input, given what is printed of it as a text.

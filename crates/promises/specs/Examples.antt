@@ -7,6 +7,7 @@ use lib.ListN.{length, take, replicate}
 use Rattle.hex.specs.Lines.{lineOf}
 use Rattle.relations.specs.Examples.{edges}
 use Rattle.reader.specs.Lines.{textOf}
+use Rattle.reader.specs.States.{parse}
 use Rattle.base.specs.Answers.{Answer, returned, refusedBy}
 use Rattle.covers.specs.Least.{found, none}
 use Rattle.analyser.specs.Calls.{TableCounts, checkOf, witnessOf, listOf, listWritten}
@@ -67,21 +68,21 @@ acceptedWithRow = returned (record { entities = 4; filters = 0; rows = 1 })
 abbrev pub items : List (Type 0)
 items =
     -- "Witness in T: row 0 all fields 0; row 1 destination port 32,768, others 0; row 2 dead."
-    (witnessOf T 0 ≡ returned (found (0 ∷ 0 ∷ 0 ∷ 0 ∷ 0 ∷ [])))
-    ∷ (witnessOf T 1 ≡ returned (found (0 ∷ 0 ∷ 0 ∷ 32768 ∷ 0 ∷ [])))
-    ∷ (witnessOf T 2 ≡ returned none)
+    (witnessOf (parse T) 0 ≡ returned (found (0 ∷ 0 ∷ 0 ∷ 0 ∷ 0 ∷ [])))
+    ∷ (witnessOf (parse T) 1 ≡ returned (found (0 ∷ 0 ∷ 0 ∷ 32768 ∷ 0 ∷ [])))
+    ∷ (witnessOf (parse T) 2 ≡ returned none)
     -- "List in 18 bytes fits, 17 gives 8."
-    ∷ ((out : List ℕ) → length out ≡ 18 → (listOf T out ≡ returned 6) × (listWritten T out ≡ listOfT))
-    ∷ ((out : List ℕ) → length out ≡ 17 → (listOf T out ≡ refusedBy 8 0) × (listWritten T out ≡ out))
+    ∷ ((out : List ℕ) → length out ≡ 18 → (listOf (parse T) out ≡ returned 6) × (listWritten (parse T) out ≡ listOfT))
+    ∷ ((out : List ℕ) → length out ≡ 17 → (listOf (parse T) out ≡ refusedBy 8 0) × (listWritten (parse T) out ≡ out))
     -- "Empty text: 3, line 1."
-    ∷ (checkOf [] ≡ refusedBy 3 1)
+    ∷ (checkOf (parse []) ≡ refusedBy 3 1)
     -- "T less its last line feed: 1, line 14."
-    ∷ (checkOf (take (length T - 1) T) ≡ refusedBy 1 14)
+    ∷ (checkOf (parse (take (length T - 1) T)) ≡ refusedBy 1 14)
     -- "Low = high accepted, low = high + 1 gives 6."
-    ∷ (checkOf (textWithRow (rowBytes (0 ∷ 80 ∷ 0 ∷ 80 ∷ []) [])) ≡ acceptedWithRow)
-    ∷ (checkOf (textWithRow (rowBytes (0 ∷ 81 ∷ 0 ∷ 80 ∷ []) [])) ≡ refusedBy 6 12)
+    ∷ (checkOf (parse (textWithRow (rowBytes (0 ∷ 80 ∷ 0 ∷ 80 ∷ []) []))) ≡ acceptedWithRow)
+    ∷ (checkOf (parse (textWithRow (rowBytes (0 ∷ 81 ∷ 0 ∷ 80 ∷ []) []))) ≡ refusedBy 6 12)
     -- "n of 8 accepted, 9 gives 2."
-    ∷ (checkOf (textWithRow (rowBytes (0 ∷ 0 ∷ 255 ∷ 255 ∷ []) (replicate 8 0))) ≡ acceptedWithRow)
-    ∷ (checkOf (textWithRow (rowBytes (0 ∷ 0 ∷ 255 ∷ 255 ∷ []) (replicate 9 0))) ≡ refusedBy 2 12)
+    ∷ (checkOf (parse (textWithRow (rowBytes (0 ∷ 0 ∷ 255 ∷ 255 ∷ []) (replicate 8 0)))) ≡ acceptedWithRow)
+    ∷ (checkOf (parse (textWithRow (rowBytes (0 ∷ 0 ∷ 255 ∷ 255 ∷ []) (replicate 9 0)))) ≡ refusedBy 2 12)
     -- the items on ranges and coefficients
     ∷ edges

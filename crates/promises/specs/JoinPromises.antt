@@ -18,7 +18,7 @@ use Rattle.relations.specs.Selectors.{Contains, hull}
 use Rattle.relations.specs.Groups.{SameGroup}
 use Rattle.joining.specs.Joining.{RowAbove, Joinable}
 use Rattle.reader.specs.Frames.{aRow, frameOf}
-use Rattle.reader.specs.States.{parse}
+use Rattle.reader.specs.States.{tableRead, parse}
 use Rattle.analyser.specs.Calls.{linePart, joinedRow, joinedLine, joinWritten}
 use Rattle.analyser.specs.Contracts.{Only, SameAnswers, JoinAnswers}
 use Rattle.analyser.specs.declared.Counted.the-variants.{Count, Refused}
@@ -36,9 +36,9 @@ pub record UpperBounds : Type 1 where
 pub record JoinedRows (text : List ℕ) (t : Table) (i j : ℕ) : Type 0 where
   -- "the call writes one row line without line feed .. It returns the length, .. what lies past a result stays unchanged"; 8 where there is no room
   pub written : (out : List ℕ) → length (joinedLine i j t) ≤ length out
-      → Only (JoinAnswers text i j out) (Count (length (joinedLine i j t)))
-      × (joinWritten text i j out ≡ joinedLine i j t ++ drop (length (joinedLine i j t)) out)
-  pub short : (out : List ℕ) → length out < length (joinedLine i j t) → Only (JoinAnswers text i j out) (Refused 8 0) × (joinWritten text i j out ≡ out)
+      → Only (JoinAnswers (parse text) i j out) (Count (length (joinedLine i j t)))
+      × (joinWritten (parse text) i j out ≡ joinedLine i j t ++ drop (length (joinedLine i j t)) out)
+  pub short : (out : List ℕ) → length out < length (joinedLine i j t) → Only (JoinAnswers (parse text) i j out) (Refused 8 0) × (joinWritten (parse text) i j out ≡ out)
   -- the line says the joined row, "in capitals"
   pub line : isLine (joinedLine i j t) ≡ true
   pub says : frameOf (bytesOf (joinedLine i j t)) ≡ aRow (joinedRow i j t)
@@ -55,16 +55,16 @@ pub record JoinedRows (text : List ℕ) (t : Table) (i j : ℕ) : Type 0 where
   pub least : LeastAbove (RowAbove (parentOf t)) (rowAt t i) (rowAt t j) (joinedRow i j t)
   -- it keeps the table's rules: the text with the line and a line feed is accepted, if it has less than 64 rows
   pub added : length (t .rows) < 64
-      → parse (text ++ (joinedLine i j t ++ (10 ∷ []))) ≡ returned (extended (joinedRow i j t ∷ []) t)
+      → parse (text ++ (joinedLine i j t ++ (10 ∷ []))) ≡ returned (tableRead (extended (joinedRow i j t ∷ []) t))
 
 -- Of an accepted text:
 pub record JoinPromise (text : List ℕ) (t : Table) : Type 0 where
   -- "9", whether one is there or none
   pub no-row : (i j : ℕ) (out : List ℕ) → ((i < length (t .rows)) × (j < length (t .rows)) → ⊥)
-      → Only (JoinAnswers text i j out) (Refused 9 0) × (joinWritten text i j out ≡ out)
+      → Only (JoinAnswers (parse text) i j out) (Refused 9 0) × (joinWritten (parse text) i j out ≡ out)
   -- "11 when holder, technology, G or either end's root differ, after 9 and before 8; its line is 0", whatever the output
   pub differ : (i j : ℕ) (out : List ℕ) → i < length (t .rows) → j < length (t .rows) → (Joinable (parentOf t) (rowAt t i) (rowAt t j) → ⊥)
-      → Only (JoinAnswers text i j out) (Refused 11 0) × (joinWritten text i j out ≡ out)
+      → Only (JoinAnswers (parse text) i j out) (Refused 11 0) × (joinWritten (parse text) i j out ≡ out)
   -- two rows can be joined that have equal holder, technology and gateways, whose sources are of one device, some entity being ⪰ both, and so their
   -- destinations
   pub joinable : (i j : ℕ)
@@ -75,8 +75,8 @@ pub record JoinPromise (text : List ℕ) (t : Table) : Type 0 where
   pub rows : (i j : ℕ) → i < length (t .rows) → j < length (t .rows) → Joinable (parentOf t) (rowAt t i) (rowAt t j) → JoinedRows text t i j
   -- "a row with itself gives its own fields", and its own line, if that is in capitals
   pub itself : (i : ℕ) → i < length (t .rows) → Joinable (parentOf t) (rowAt t i) (rowAt t i) × (joinedRow i i t ≡ rowAt t i)
-  pub own-line : (i : ℕ) → i < length (t .rows) → InCapitals (linePart text i) → joinedLine i i t ≡ linePart text i
+  pub own-line : (i : ℕ) → i < length (t .rows) → InCapitals (linePart text (parse text) i) → joinedLine i i t ≡ linePart text (parse text) i
 
 -- "Joining is commutative", in answer and bytes, of any text, any two numbers and any output. (A refused text's own number and line: `RefusedText`.)
 abbrev pub Commutes : List ℕ → (i j : ℕ) → List ℕ → Type 0
-Commutes text i j out = SameAnswers (JoinAnswers text i j out) (JoinAnswers text j i out) × (joinWritten text i j out ≡ joinWritten text j i out)
+Commutes text i j out = SameAnswers (JoinAnswers (parse text) i j out) (JoinAnswers (parse text) j i out) × (joinWritten (parse text) i j out ≡ joinWritten (parse text) j i out)

@@ -6,7 +6,9 @@ use mathlib.Core.Path.{_≡_}
 use mathlib.Core.Logic.{_↔_}
 use mathlib.Core.List.{List, [], _∷_, _++_, List·Memᴰ}
 use lib.ListN.{length, drop}
+use Rattle.base.specs.Answers.{returned}
 use Rattle.policy.specs.Model.{Table}
+use Rattle.reader.specs.States.{Parsed, parse}
 use Rattle.relations.specs.Groups.{Dead}
 use Rattle.kinds.specs.Meanings.{InternalLoop, OutOfPlace, NonEnforceable, Inadequate, Shadowing, Redundancy, Exception, Correlation, Inclusion, Affinity, Contradiction, Superfluous, Skewed, Filtered, LayerTwo, Asymmetric, Cyclic, Monitorable, AlternativePath, FilterShadowing, FilterRedundancy}
 use Rattle.kinds.specs.Kinds.{Anomaly}
@@ -54,26 +56,31 @@ pub record KindNumbers (t : Table) : Type 0 where
   -- there is no other kind
   pub no-other : (i kind j : ℕ) → Anomaly t i kind j → (1 ≤ kind) × (kind ≤ 22)
 
--- "The list is the one that the twenty kinds .. define: no entry more, none less." By request [7] this means twenty-two kinds, "as altered here and in this
--- order: nobody can name one that it lacks, and it has no entry more".
-pub record ListPromise (text : List ℕ) (t : Table) : Type 0 where
-  -- given space, List writes the entries and returns their count
-  pub written : (out : List ℕ) → 3 * length (entries t) ≤ length out
-      → Only (ListAnswers text out) (Count (length (entries t))) × (listWritten text out ≡ bytes (entries t) ++ drop (3 * length (entries t)) out)
-  -- "three bytes an entry (first row, kind, second number)", with filter numbers in those of filters
-  pub three : (bytes [] ≡ []) × ((i kind j : ℕ) (l : List Entry) → bytes (entry i kind j ∷ l) ≡ i ∷ kind ∷ j ∷ bytes l)
-  -- "List's entries are exactly the table's anomalies of the twenty kinds, each once, in document 01's order", those of filters "after all row entries,
-  -- ascending"
-  pub exact : (i kind j : ℕ) → List·Memᴰ (entry i kind j) (entries t) ↔ Anomaly t i kind j
-  pub kinds : KindNumbers t
-  pub ascending : Ascending (entries t)
-  -- "The list has at most 13,792 entries"
-  pub few : length (entries t) ≤ 13792
+-- Of what was read of an accepted text:
+module _ (r : Parsed) where
+  abbrev t : Table
+  t = r .table
+
+  -- "The list is the one that the twenty kinds .. define: no entry more, none less." By request [7] this means twenty-two kinds, "as altered here and in this
+  -- order: nobody can name one that it lacks, and it has no entry more".
+  pub record ListPromise : Type 0 where
+    -- given space, List writes the entries and returns their count
+    pub written : (out : List ℕ) → 3 * length (entries t) ≤ length out
+        → Only (ListAnswers (returned r) out) (Count (length (entries t))) × (listWritten (returned r) out ≡ bytes (entries t) ++ drop (3 * length (entries t)) out)
+    -- "three bytes an entry (first row, kind, second number)", with filter numbers in those of filters
+    pub three : (bytes [] ≡ []) × ((i kind j : ℕ) (l : List Entry) → bytes (entry i kind j ∷ l) ≡ i ∷ kind ∷ j ∷ bytes l)
+    -- "List's entries are exactly the table's anomalies of the twenty kinds, each once, in document 01's order", those of filters "after all row entries,
+    -- ascending"
+    pub exact : (i kind j : ℕ) → List·Memᴰ (entry i kind j) (entries t) ↔ Anomaly t i kind j
+    pub kinds : KindNumbers t
+    pub ascending : Ascending (entries t)
+    -- "The list has at most 13,792 entries"
+    pub few : length (entries t) ≤ 13792
 
 -- ---- List for C
 
 -- "a number in return: the count, or 65,536 × refusal + line". It tells the count from a refusal, and a refusal's number from its line.
 pub record PackedPromise (text out : List ℕ) : Type 0 where
-  pub count : (n : ℕ) → ListAnswers text out (Count n) → (packed (listOf text out) ≡ n) × (n < 65536)
-  pub refusals : (number line : ℕ) → ListAnswers text out (Refused number line)
-      → (packed (listOf text out) ≡ 65536 * number + line) × (1 ≤ number) × (number ≤ 10) × (line < 65536)
+  pub count : (n : ℕ) → ListAnswers (parse text) out (Count n) → (packed (listOf (parse text) out) ≡ n) × (n < 65536)
+  pub refusals : (number line : ℕ) → ListAnswers (parse text) out (Refused number line)
+      → (packed (listOf (parse text) out) ≡ 65536 * number + line) × (1 ≤ number) × (number ≤ 10) × (line < 65536)

@@ -10,7 +10,7 @@ use Rattle.policy.specs.Model.{Range, Selector, Packet, Table, rowAt}
 use Rattle.policy.specs.Wellformed.{Ordered}
 use Rattle.policy.specs.Views.{packetOf}
 use Rattle.policy.specs.declared.selector.Packet.{Packet as PacketStruct}
-use Rattle.reader.specs.States.{parse}
+use Rattle.reader.specs.States.{Parsed, parse}
 use Rattle.covers.specs.Least.{_≤ₚ_, Claimed}
 use Rattle.covers.specs.Covers.{coverOn, CoverExact}
 use Rattle.mesh.specs.Promises.{Cuts, CutInEach, Cells}
@@ -26,22 +26,22 @@ Examined t i p = CutInEach (rowAt t i .selector) (coverOn t i) p
 abbrev pub Unclaimed : Table → ℕ → Packet → Type 0
 Unclaimed t i p = Claimed (coverOn t i) p → ⊥
 
--- What Mesh answers of row i of an accepted text:
-pub record MeshOfRow (text : List ℕ) (t : Table) (i : ℕ) : Type 0 where
+-- What Mesh answers of row i of what was read:
+pub record MeshOfRow (r : Parsed) (i : ℕ) : Type 0 where
   -- "the earlier boxes that could cover it"
-  pub cover : CoverExact t i
+  pub cover : CoverExact (r .table) i
   -- the first of the examined packets that none of them has; dead, where there is none
-  pub dead : MeshAnswers text i DeadCase ↔ ((p : Packet) → Examined t i p → Unclaimed t i p → ⊥)
+  pub dead : MeshAnswers (returned r) i DeadCase ↔ ((p : Packet) → Examined (r .table) i p → Unclaimed (r .table) i p → ⊥)
   pub packet : (p : PacketStruct)
-      → MeshAnswers text i (PacketCase p)
-      ↔ (Examined t i (packetOf p) × Unclaimed t i (packetOf p) × ((q : Packet) → Examined t i q → Unclaimed t i q → packetOf p ≤ₚ q))
+      → MeshAnswers (returned r) i (PacketCase p)
+      ↔ (Examined (r .table) i (packetOf p) × Unclaimed (r .table) i (packetOf p) × ((q : Packet) → Examined (r .table) i q → Unclaimed (r .table) i q → packetOf p ≤ₚ q))
 
 pub record MeshPromise : Type 0 where
   -- "Its verdict on dead rows and its least unclaimed packet equal Witness's for every accepted text and row .. with the same refusals": whatever the text
   -- and the number, the two answers are one. (What Witness's are: `WitnessPromise`, `RefusedText` and `AcceptedText`.)
-  pub same : (text : List ℕ) (k : ℕ) → SameAnswers (MeshAnswers text k) (WitnessAnswers text k)
+  pub same : (text : List ℕ) (k : ℕ) → SameAnswers (MeshAnswers (parse text) k) (WitnessAnswers (parse text) k)
   -- "examine the least packet of each cell"
-  pub rows : (text : List ℕ) (t : Table) (i : ℕ) → parse text ≡ returned t → i < length (t .rows) → MeshOfRow text t i
+  pub rows : (text : List ℕ) (r : Parsed) (i : ℕ) → parse text ≡ returned r → i < length (r .table .rows) → MeshOfRow r i
   -- the cuts of a field of a row, whatever the boxes
   pub cuts : (r : Range) (qs : List Range) → r .low ≤ r .high → Cuts r qs
   -- "Show once, for any number of fields, that all packets of a cell lie in the same of those boxes", and what follows from it

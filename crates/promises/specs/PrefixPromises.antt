@@ -13,6 +13,7 @@ use Rattle.relations.specs.Ranges.{Within}
 use Rattle.prefixes.specs.Prefixes.{Prefix, IsPrefix, InPrefix, blockOf, PrefixesOf, prefixes}
 use Rattle.prefixes.specs.Bytes.{prefixBytes}
 use Rattle.prefixes.specs.Sides.{sideOf}
+use Rattle.reader.specs.States.{parse}
 use Rattle.analyser.specs.Calls.{rowPrefixes, prefixesWritten}
 use Rattle.analyser.specs.Contracts.{Only, PrefixesAnswers}
 use Rattle.analyser.specs.declared.Counted.the-variants.{Count, Refused}
@@ -56,17 +57,17 @@ pub record SidePrefixes (text : List ℕ) (t : Table) (k side : ℕ) : Type 0 wh
   pub single : (a : ℕ) → sideOf side (rowAt t k .selector) ≡ record { low = a; high = a } → rowPrefixes k side t ≡ record { address = a; length = 32 } ∷ []
   -- "write the range's prefixes .., with the count returned": five bytes each, the rest unchanged; 8 where there is no room
   pub written : (out : List ℕ) → 5 * length (rowPrefixes k side t) ≤ length out
-      → Only (PrefixesAnswers text k side out) (Count (length (rowPrefixes k side t)))
-      × (prefixesWritten text k side out ≡ prefixBytes 4 (rowPrefixes k side t) ++ drop (5 * length (rowPrefixes k side t)) out)
+      → Only (PrefixesAnswers (parse text) k side out) (Count (length (rowPrefixes k side t)))
+      × (prefixesWritten (parse text) k side out ≡ prefixBytes 4 (rowPrefixes k side t) ++ drop (5 * length (rowPrefixes k side t)) out)
   pub short : (out : List ℕ) → length out < 5 * length (rowPrefixes k side t)
-      → Only (PrefixesAnswers text k side out) (Refused 8 0) × (prefixesWritten text k side out ≡ out)
+      → Only (PrefixesAnswers (parse text) k side out) (Refused 8 0) × (prefixesWritten (parse text) k side out ≡ out)
 
 -- Of an accepted text (a refused one's own number and line: `RefusedText`):
 pub record PrefixPromise (text : List ℕ) (t : Table) : Type 0 where
   -- "9", whatever the side
   pub no-row : (k side : ℕ) (out : List ℕ) → length (t .rows) ≤ k
-      → Only (PrefixesAnswers text k side out) (Refused 9 0) × (prefixesWritten text k side out ≡ out)
+      → Only (PrefixesAnswers (parse text) k side out) (Refused 9 0) × (prefixesWritten (parse text) k side out ≡ out)
   -- "12 when the side is above 1, after 9 and before 8", whatever the output
   pub no-side : (k side : ℕ) (out : List ℕ) → k < length (t .rows) → 1 < side
-      → Only (PrefixesAnswers text k side out) (Refused 12 0) × (prefixesWritten text k side out ≡ out)
+      → Only (PrefixesAnswers (parse text) k side out) (Refused 12 0) × (prefixesWritten (parse text) k side out ≡ out)
   pub sides : (k side : ℕ) → k < length (t .rows) → side ≤ 1 → SidePrefixes text t k side

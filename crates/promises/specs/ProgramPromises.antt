@@ -8,7 +8,7 @@ use lib.ListN.{length, take, drop}
 use Rattle.base.specs.Answers.{returned, refusedBy}
 use Rattle.hex.specs.Digits.{digitsOf}
 use Rattle.policy.specs.Model.{Table}
-use Rattle.reader.specs.States.{parse}
+use Rattle.reader.specs.States.{tableRead, parse}
 use Rattle.kinds.specs.Entries.{Entry, entry, entries}
 use Rattle.striking.specs.Texts.{struckText}
 use Rattle.printing.specs.Printed.{entryLines, rowlistPrints, strikePrints, Prints}
@@ -26,7 +26,7 @@ pub record ProgramPromise (prints : List ℕ → List ℕ) (ofTable : List ℕ �
   -- "A refused text prints ! and two digits each of number and line"
   pub refused : (input : List ℕ) (number line : ℕ) → length input ≤ 16384 → parse input ≡ refusedBy number line
       → prints input ≡ 33 ∷ (digitsOf number ++ (digitsOf line ++ (10 ∷ [])))
-  pub accepted : (input : List ℕ) (t : Table) → length input ≤ 16384 → parse input ≡ returned t → prints input ≡ ofTable input t
+  pub accepted : (input : List ℕ) (t : Table) → length input ≤ 16384 → parse input ≡ returned (tableRead t) → prints input ≡ ofTable input t
   -- it stands at the output's start, whole: the program writes the first n bytes, and the others are unchanged
   pub written : (input before after : List ℕ) (n : ℕ) → space ≤ length before → Prints (prints input) before after n
       → (take n after ≡ prints input) × (drop n after ≡ drop n before)

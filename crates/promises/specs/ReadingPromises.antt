@@ -18,7 +18,7 @@ use Rattle.frames.specs.Kinds.{ofEntity, ofCap, ofFloor, ofFilter, ofRow, descr
 use Rattle.reader.specs.Lines.{linesOf, restOf, textOf}
 use Rattle.reader.specs.Frames.{Frame, aFrame, frameOf}
 use Rattle.reader.specs.Forms.{SaysFrame}
-use Rattle.reader.specs.States.{parse}
+use Rattle.reader.specs.States.{tableRead, parse}
 use Rattle.reader.specs.Rules.{framesOf, KeepsRules}
 use Rattle.reader.specs.Faults.{FaultAt, FirstFault}
 
@@ -119,7 +119,7 @@ pub record MaskValues (mask : ℕ) : Type 0 where
 
 -- "Every text that keeps the table rules of document 01 is accepted", and every other is refused.
 pub record Reading : Type 0 where
-  pub accepts : (text : List ℕ) (t : Table) → (parse text ≡ returned t) ↔ KeepsRules text t
+  pub accepts : (text : List ℕ) (t : Table) → (parse text ≡ returned (tableRead t)) ↔ KeepsRules text t
   pub refuses : (text : List ℕ) → ((t : Table) → KeepsRules text t → ⊥) → (number : ℕ) × (line : ℕ) × (parse text ≡ refusedBy number line)
   pub cut : (text : List ℕ) → Cut text
   -- what is a line, and what a line's bytes say
@@ -163,5 +163,7 @@ pub record Reading : Type 0 where
   pub filter-rule : (t : Table) (f : Filter) → FilterRule t f → IsRoot t (f .root) × ((b : Range) → List·Memᴰ b (f .selector) → b .low ≤ b .high)
   -- "The first faulty line counts (lines from 1), there the least number", each number as the table of returns says it
   pub first-fault : (text : List ℕ) (number line : ℕ) → (parse text ≡ refusedBy number line) ↔ FirstFault text number line
+  -- the numbers of a text's faults, and a line of two digits
+  pub refusal-numbers : (text : List ℕ) (number line : ℕ) → parse text ≡ refusedBy number line → (1 ≤ number) × (number ≤ 7) × (line < 256)
   -- a text that keeps the rules has no fault, at whatever line
   pub faultless : (text : List ℕ) (t : Table) → KeepsRules text t → (k n : ℕ) → FaultAt text k n → ⊥

@@ -16,6 +16,13 @@ use Rattle.frames.specs.Kinds.{describe}
 use Rattle.reader.specs.Lines.{linesOf, restOf}
 use Rattle.reader.specs.Frames.{Frame, aFrame, noFrame, frameOf}
 
+-- What was read of a text that is accepted. Calls are defined on it.
+pub record Parsed : Type 0 where
+  pub table : Table
+
+abbrev pub tableRead : Table → Parsed
+tableRead t = record { table = t }
+
 -- After so many lines, or refused at a line.
 pub data State : Type 0 where
   reading : ℕ → Progress → State
@@ -46,10 +53,10 @@ run s [] = s
 run s (line ∷ lines) = run (step s line) lines
 
 -- At the text's end. "last line without line feed": 1. "a text ending before the floor gives last line + 1": 3.
-unfoldable pub finish : State → List ℕ → Answer Table
+unfoldable pub finish : State → List ℕ → Answer Parsed
 finish (reading n p) rest =
-    pick (eqb (length rest) 0) (pick (eqb (p .floored) 1) (returned (p .table)) (refusedBy outOfSequence (suc n))) (refusedBy noLine (suc n))
+    pick (eqb (length rest) 0) (pick (eqb (p .floored) 1) (returned (tableRead (p .table))) (refusedBy outOfSequence (suc n))) (refusedBy noLine (suc n))
 finish (refused number line) rest = refusedBy number line
 
-unfoldable pub parse : List ℕ → Answer Table
+unfoldable pub parse : List ℕ → Answer Parsed
 parse text = finish (run (reading 0 nothing) (linesOf text)) (restOf text)

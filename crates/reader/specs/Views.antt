@@ -5,13 +5,12 @@ use mathlib.Core.Path.{_≡_}
 use lib.Dec.{eqb}
 use mathlib.Core.List.{List}
 use Rattle.base.specs.Truths.{pick}
-use Rattle.policy.specs.Model.{Table}
 use Rattle.policy.specs.Views.{tableOf, Held}
 use Rattle.base.specs.Answers.{Answer, returned, refusedBy}
 use Rattle.frames.specs.Progress.{Progress, linesRead}
 use Rattle.frames.specs.Kinds.{FrameName}
 use Rattle.reader.specs.Frames.{frameIn}
-use Rattle.reader.specs.States.{State, reading, refused, takeFrame}
+use Rattle.reader.specs.States.{Parsed, tableRead, State, reading, refused, takeFrame}
 use Rattle.reader.specs.declared.Reader.{Reader}
 
 abbrev pub progressOf : Reader → Progress
@@ -24,8 +23,8 @@ stateOf r = pick (eqb (r .number) 0) (reading (linesRead (progressOf r)) (progre
 abbrev pub stateWith : Reader → FrameName → List ℕ → State
 stateWith r k bs = takeFrame (linesRead (progressOf r)) (progressOf r) (frameIn k bs)
 
-abbrev pub parsedOf : Reader → Answer Table
-parsedOf r = pick (eqb (r .number) 0) (returned (tableOf (r .table))) (refusedBy (r .number) (r .line))
+abbrev pub parsedOf : Reader → Answer Parsed
+parsedOf r = pick (eqb (r .number) 0) (returned (tableRead (tableOf (r .table)))) (refusedBy (r .number) (r .line))
 
 -- The reader has room for what it counts.
 pub record Ready (r : Reader) : Type 0 where
@@ -38,6 +37,6 @@ pub record Reads (r : Reader) (s : State) : Type 0 where
   pub ready : Ready r
 
 -- The reader r stands for what a text is.
-pub record Parses (r : Reader) (x : Answer Table) : Type 0 where
+pub record Parses (r : Reader) (x : Answer Parsed) : Type 0 where
   pub same : parsedOf r ≡ x
   pub ready : Ready r

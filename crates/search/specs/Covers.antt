@@ -9,32 +9,19 @@ use lib.Bits.{bitAnd}
 use lib.Dec.{eqb, ltb}
 use lib.ListN.{getD}
 use Rattle.base.specs.Truths.{pick}
-use Rattle.policy.specs.Model.{Selector, Packet}
+use Rattle.policy.specs.Model.{Selector}
 use Rattle.policy.specs.Views.{rangeIn}
-use Rattle.relations.specs.Selectors.{Holds}
 use Rattle.covers.specs.Sets.{In, fieldOf}
-use Rattle.search.specs.Search.{Candidate, value, last}
-
--- ---- what a cover is
-
--- One of the boxes that are chosen has the packet.
-pub record HeldBy (box : ℕ → Selector) (chosen : ℕ → Type 0) (q : Packet) : Type 0 where
-  pub place : ℕ
-  pub choice : chosen place
-  pub holds : Holds (box place) q
-
--- A cover of s: together its boxes hold every packet of s.
-abbrev pub Covers : (ℕ → Selector) → Selector → ℕ → Type 0
-Covers box s set = (q : Packet) → Holds s q → HeldBy box (In set) q
+use Rattle.covers.specs.Views.{NextValue, comes, end}
 
 -- ---- the boxes of a set
 
 -- The fields fs of the box at place k, in their order, and the high of its field f.
-abbrev pub boxOf : (bounds at fs : List ℕ) (k : ℕ) → Selector
-boxOf bounds at fs k = map (rangeIn bounds (getD at k 0)) fs
+abbrev pub boxIn : (bounds at fs : List ℕ) (k : ℕ) → Selector
+boxIn bounds at fs k = map (rangeIn bounds (getD at k 0)) fs
 
-abbrev pub highs : (bounds at : List ℕ) (f k : ℕ) → ℕ
-highs bounds at f k = fieldOf bounds at f k .high
+abbrev pub highOf : (bounds at : List ℕ) (f k : ℕ) → ℕ
+highOf bounds at f k = fieldOf bounds at f k .high
 
 -- ---- how far a cover reaches
 
@@ -45,18 +32,18 @@ pub record Reaches (high : ℕ → ℕ) (set top m : ℕ) : Type 0 where
   pub reached : (m ≡ top) ⊎ ((k : ℕ) × In set k × (m ≡ high k))
 
 -- The candidate past m, where that is below the row's high.
-abbrev pub past : ℕ → ℕ → Candidate
-past m high = pick (ltb m high) (value (m + 1)) last
+abbrev pub past : ℕ → ℕ → NextValue
+past m high = pick (ltb m high) (comes (m + 1)) end
 
 -- The candidate after the values that a cover takes: one past its least high.
-pub record Follows (high : ℕ → ℕ) (set top : ℕ) (n : Candidate) : Type 0 where
+pub record Follows (high : ℕ → ℕ) (set top : ℕ) (n : NextValue) : Type 0 where
   pub least : ℕ
   pub reaches : Reaches high set top least
   pub next : n ≡ past least top
 
 -- The first candidate of a field for which this cover is known: none, and the row's low where none is known.
-abbrev pub opening : ℕ → ℕ → Candidate
-opening cover low = pick (eqb cover 0) (value low) last
+abbrev pub opening : ℕ → ℕ → NextValue
+opening cover low = pick (eqb cover 0) (comes low) end
 
 -- One box of the set alone, and none of them has a greater high.
 pub record Furthest (high : ℕ → ℕ) (set one : ℕ) : Type 0 where

@@ -10,6 +10,7 @@ use Rattle.policy.specs.Model.{Range, Selector, noRange}
 use Rattle.relations.specs.Ranges.{within}
 use Rattle.base.specs.Lists.{passing}
 use Rattle.covers.specs.Least.{SearchResult, found, none}
+use Rattle.covers.specs.Views.{NextValue, comes, end}
 
 -- A box's first field.
 abbrev pub first : Selector → Range
@@ -28,13 +29,9 @@ abbrev pub least : ℕ → ℕ → List Selector → ℕ
 least v m [] = m
 least v m (b ∷ bs) = least v (lesser v (first b .high) m) bs
 
-pub data Candidate : Type 0 where
-  value : ℕ → Candidate
-  last : Candidate
-
 -- The candidate after v: one past the least high of a box, above v and at most the row's high.
-abbrev pub next : ℕ → ℕ → List Selector → Candidate
-next v high bs = pick (ltb (least v high bs) high) (value (least v high bs + 1)) last
+abbrev pub next : ℕ → ℕ → List Selector → NextValue
+next v high bs = pick (ltb (least v high bs) high) (comes (least v high bs + 1)) end
 
 -- A packet found with v in this field, or else what comes later.
 abbrev pub or-later : ℕ → SearchResult → SearchResult → SearchResult
@@ -42,9 +39,9 @@ or-later v (found p) later = found (v ∷ p)
 or-later v none later = later
 
 -- The further candidates, where there is one.
-abbrev pub onward : Candidate → (ℕ → SearchResult) → SearchResult
-onward (value w) k = k w
-onward last k = none
+abbrev pub onward : NextValue → (ℕ → SearchResult) → SearchResult
+onward (comes w) k = k w
+onward end k = none
 
 -- The candidates from v on, at most n of them: what `rest` finds among the boxes that hold one, or the next.
 unfoldable pub tries : (List Selector → SearchResult) → ℕ → ℕ → ℕ → List Selector → SearchResult

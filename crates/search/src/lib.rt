@@ -17,15 +17,8 @@ use crate::walk::Values;
 use covers::Boxes;
 use covers::Found;
 use policy::limits::FIELDS;
-use policy::number::Number;
 use policy::selector::Packet;
 use policy::table::Bounds;
-
-// The candidate after another in a field.
-pub enum Next {
-    Value(Number),
-    Last,
-}
 
 // The packet of these values, of a walk that begins with the first field.
 fn packet(v: Values) -> Packet

@@ -7,9 +7,9 @@ ghost use Rattle.base.specs.Truths.{pick};
 ghost use Rattle.policy.specs.Limits.{fieldCount, mostRows, mostSelectors};
 ghost use Rattle.policy.specs.Views.{value};
 ghost use Rattle.covers.specs.Sets.{Numbered};
-ghost use Rattle.search.specs.Views.{candidateOf};
-ghost use Rattle.search.specs.Covers.{highs, Follows, Furthest};
-use crate::Next;
+ghost use Rattle.covers.specs.Views.{nextOf};
+ghost use Rattle.search.specs.Covers.{highOf, Follows, Furthest};
+use covers::Next;
 use covers::set::Numbers;
 use policy::number::Number;
 use policy::table;
@@ -18,7 +18,7 @@ use policy::table::Bounds;
 // The candidate after the values of field f that the cover takes: one past the least high of its boxes, if that is below high.
 pub fn following(bounds: &Bounds, at: &Numbers, f: usize, cover: u64, high: Number) -> Next
     requires { ⌜ (f < fieldCount) × Numbered (now at) cover ⌝ }
-    ensures { λ r. ⌜ Follows (highs (now (bounds .entry)) (now (at .entry)) f) cover (value high) (candidateOf r) ⌝ }
+    ensures { λ r. ⌜ Follows (highOf (now (bounds .entry)) (now (at .entry)) f) cover (value high) (nextOf r) ⌝ }
 {
     let mut m = high;
     let mut rest = cover;
@@ -29,7 +29,7 @@ pub fn following(bounds: &Bounds, at: &Numbers, f: usize, cover: u64, high: Numb
         rest = rest & (rest - 1);
     }
     if high.at_most(m) {
-        return Next::Last;
+        return Next::End;
     }
     Next::Value(m.next(high))
 }
@@ -37,7 +37,7 @@ pub fn following(bounds: &Bounds, at: &Numbers, f: usize, cover: u64, high: Numb
 // Of the places j and k the one whose box has the greater high in field f, or j.
 fn further(bounds: &Bounds, at: &Numbers, f: usize, j: usize, k: usize) -> usize
     requires { ⌜ (f < fieldCount) × (j < mostRows) × (k < mostRows) × (getD (now at) j 0 < mostSelectors) × (getD (now at) k 0 < mostSelectors) ⌝ }
-    ensures { λ r. ⌜ r ≡ pick (ltb (highs (now (bounds .entry)) (now (at .entry)) f j) (highs (now (bounds .entry)) (now (at .entry)) f k)) k j ⌝ }
+    ensures { λ r. ⌜ r ≡ pick (ltb (highOf (now (bounds .entry)) (now (at .entry)) f j) (highOf (now (bounds .entry)) (now (at .entry)) f k)) k j ⌝ }
 {
     let x = at[j];
     let y = at[k];
@@ -49,7 +49,7 @@ fn further(bounds: &Bounds, at: &Numbers, f: usize, j: usize, k: usize) -> usize
 // One box of the set, which is not empty: one that reaches furthest in field f.
 pub fn furthest(bounds: &Bounds, at: &Numbers, f: usize, set: u64) -> u64
     requires { ⌜ (f < fieldCount) × Numbered (now at) set × (set ≡ 0 → ⊥) ⌝ }
-    ensures { λ r. ⌜ Furthest (highs (now (bounds .entry)) (now (at .entry)) f) set r ⌝ }
+    ensures { λ r. ⌜ Furthest (highOf (now (bounds .entry)) (now (at .entry)) f) set r ⌝ }
 {
     let mut best = u64::trailing_zeros(set) as usize;
     let mut rest = set;

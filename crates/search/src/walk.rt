@@ -5,16 +5,15 @@ ghost use mathlib.Core.List.{map};
 ghost use Prim.Native.Nat.{_-_, _<_};
 ghost use Rattle.policy.specs.Limits.{fieldCount, mostSelectors};
 ghost use Rattle.policy.specs.Views.{value, selectorIn};
-ghost use Rattle.covers.specs.Views.{boxesAt, BoxNumbers};
+ghost use Rattle.covers.specs.Views.{boxesAt, BoxNumbers, nextOf};
 ghost use Rattle.search.specs.Search.{search as searched};
-ghost use Rattle.search.specs.Views.{candidateOf};
 ghost use Rattle.search.specs.Covers.{opening as openingOf};
 ghost use Rattle.search.specs.Turns.{turned, Tells};
-use crate::Next;
 use crate::kept;
 use crate::kept::COVERS;
 use crate::reach;
 use covers::Boxes;
+use covers::Next;
 use covers::set;
 use policy::limits::FIELDS;
 use policy::number::Number;
@@ -39,12 +38,12 @@ pub enum Ended {
 
 // The first candidate of a field: none where a cover is known.
 fn opening(cover: u64, low: Number) -> Next
-    ensures { λ r. ⌜ candidateOf r ≡ openingOf cover (value low) ⌝ }
+    ensures { λ r. ⌜ nextOf r ≡ openingOf cover (value low) ⌝ }
 {
     if cover == 0 {
         return Next::Value(low);
     }
-    Next::Last
+    Next::End
 }
 
 // One less, or 0 of 0.

@@ -10,7 +10,7 @@ use Rattle.base.specs.Truths.{pick}
 use Rattle.policy.specs.Limits.{mostRows}
 use Rattle.policy.specs.Model.{Table}
 use Rattle.reader.specs.Lines.{lineFeed}
-use Rattle.kinds.specs.Tests.{dead}
+use Rattle.verdicts.specs.Verdicts.{dead}
 
 -- At each row's place stands whether it is dead, and past the rows no flag is set.
 pub record DeadRows (t : Table) (flags : List Bool) : Type 0 where

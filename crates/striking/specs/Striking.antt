@@ -10,7 +10,7 @@ use Rattle.policy.specs.Wellformed.{IsEntity, Wellformed}
 use Rattle.relations.specs.Groups.{Dead, winnerFrom}
 use Rattle.relations.specs.declared.group.Outcome.{Outcome}
 use Rattle.relations.specs.declared.group.Outcome.the-variants.{Won, Nobody}
-use Rattle.kinds.specs.Tests.{dead}
+use Rattle.verdicts.specs.Verdicts.{dead}
 use Rattle.base.specs.Lists.{numbersFrom}
 
 -- "kept are all rows but the dead": their numbers, ascending.

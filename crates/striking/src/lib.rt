@@ -1,13 +1,13 @@
 // Striking the dead rows of a table: its text without their lines, in the caller's output.
 ghost use mathlib.Core.Path.{_≡_};
-ghost use Prim.Native.Nat.{_<_, _≤_};
+ghost use Prim.Native.Nat.{_+_, _^_, _<_, _≤_};
 ghost use lib.ListN.{length};
 ghost use lib.Seq.{sets};
 ghost use Rattle.policy.specs.Views.{tableOf, Held};
 ghost use Rattle.policy.specs.Wellformed.{Wellformed};
 ghost use Rattle.base.specs.Answers.{returned};
 ghost use Rattle.base.specs.Outputs.{Writes};
-ghost use Rattle.reader.specs.States.{parse};
+ghost use Rattle.reader.specs.States.{tableRead, parse};
 ghost use Rattle.striking.specs.Texts.{struckText};
 ghost use Rattle.striking.specs.Bytes.{DeadRows, keeps as keepsTest, nextPlace, keptBytes};
 use base::Written;
@@ -49,7 +49,7 @@ fn keeps(dead: &Flags, others: usize, n: usize) -> bool
 
 // The place of the line of the byte after c.
 fn next_place(n: usize, c: u8) -> usize
-    requires { ⌜ n < 18446744073709551615 ⌝ }
+    requires { ⌜ n + 1 < 2 ^ 64 ⌝ }
     ensures { λ r. ⌜ r ≡ nextPlace n c ⌝ }
 {
     if c == b'\n' { n + 1 } else { n }
@@ -91,7 +91,7 @@ fn copy_kept(text: &[u8], dead: &Flags, others: usize, out: &mut [u8])
 
 // Writes the text, whose table is t, without its dead rows' lines to the start of out, if there is room for it. The rest of out is unchanged.
 pub fn strike(text: &[u8], t: Table, out: &mut [u8]) -> Written
-    requires { ⌜ Held t × (parse (now text) ≡ returned (tableOf t)) ⌝ }
+    requires { ⌜ Held t × (parse (now text) ≡ returned (tableRead (tableOf t))) ⌝ }
     ensures { λ r. ⌜ Writes (struckText (now (text .entry)) (tableOf t)) (now (out .entry)) (now (out .exit)) r ⌝ }
 {
     let dead = dead_rows(t);

@@ -1,5 +1,6 @@
 // What the benchmark calls: a text and rows' numbers in, a number out.
 ghost use mathlib.Core.Path.{_≡_};
+ghost use Rattle.reader.specs.States.{parse};
 ghost use Rattle.calls.specs.Views.{witnessAnswer};
 ghost use Rattle.mesh_call.specs.Calls.{meshOf};
 ghost use Rattle.analyser.specs.Calls.{checkOf, witnessOf, packed, strikeOf, strikeWritten, joinOf, joinWritten, prefixesOf, prefixesWritten};
@@ -10,7 +11,7 @@ use calls::Witness;
 // 0 if the text is accepted, else 1.
 #[no_mangle]
 pub extern "C" fn timed_check(text: &[u8]) -> u64
-    ensures { λ n. ⌜ n ≡ checkCode (checkOf (now (text .entry))) ⌝ }
+    ensures { λ n. ⌜ n ≡ checkCode (checkOf (parse (now (text .entry)))) ⌝ }
 {
     match analyser::check(text) {
         Checked::Counts {
@@ -36,7 +37,7 @@ fn code(answer: Witness) -> u64
 // Witness's answer of row k as a number.
 #[no_mangle]
 pub extern "C" fn timed_witness(text: &[u8], k: usize) -> u64
-    ensures { λ n. ⌜ n ≡ witnessCode (witnessOf (now (text .entry)) k) ⌝ }
+    ensures { λ n. ⌜ n ≡ witnessCode (witnessOf (parse (now (text .entry))) k) ⌝ }
 {
     code(analyser::witness_of(text, k))
 }
@@ -44,7 +45,7 @@ pub extern "C" fn timed_witness(text: &[u8], k: usize) -> u64
 // Mesh's answer of row k as a number.
 #[no_mangle]
 pub extern "C" fn timed_mesh(text: &[u8], k: usize) -> u64
-    ensures { λ n. ⌜ n ≡ witnessCode (meshOf (now (text .entry)) k) ⌝ }
+    ensures { λ n. ⌜ n ≡ witnessCode (meshOf (parse (now (text .entry))) k) ⌝ }
 {
     code(mesh_call::mesh_of(text, k))
 }
@@ -52,8 +53,8 @@ pub extern "C" fn timed_mesh(text: &[u8], k: usize) -> u64
 // The length of the struck text, or the refusal as one number. Writes what Strike writes.
 #[no_mangle]
 pub extern "C" fn timed_strike(text: &[u8], out: &mut [u8]) -> u64
-    ensures answers { λ n. ⌜ n ≡ packed (strikeOf (now (text .entry)) (now (out .entry))) ⌝ }
-    ensures writes { λ _. ⌜ now (out .exit) ≡ strikeWritten (now (text .entry)) (now (out .entry)) ⌝ }
+    ensures answers { λ n. ⌜ n ≡ packed (strikeOf (now (text .entry)) (parse (now (text .entry))) (now (out .entry))) ⌝ }
+    ensures writes { λ _. ⌜ now (out .exit) ≡ strikeWritten (now (text .entry)) (parse (now (text .entry))) (now (out .entry)) ⌝ }
 {
     analyser::packed_count(analyser::strike(text, out))
 }
@@ -61,8 +62,8 @@ pub extern "C" fn timed_strike(text: &[u8], out: &mut [u8]) -> u64
 // The length of the line of rows i and j joined, or the refusal as one number. Writes what Join writes.
 #[no_mangle]
 pub extern "C" fn timed_join(text: &[u8], i: usize, j: usize, out: &mut [u8]) -> u64
-    ensures answers { λ n. ⌜ n ≡ packed (joinOf (now (text .entry)) i j (now (out .entry))) ⌝ }
-    ensures writes { λ _. ⌜ now (out .exit) ≡ joinWritten (now (text .entry)) i j (now (out .entry)) ⌝ }
+    ensures answers { λ n. ⌜ n ≡ packed (joinOf (parse (now (text .entry))) i j (now (out .entry))) ⌝ }
+    ensures writes { λ _. ⌜ now (out .exit) ≡ joinWritten (parse (now (text .entry))) i j (now (out .entry)) ⌝ }
 {
     analyser::packed_count(analyser::join(text, i, j, out))
 }
@@ -70,8 +71,8 @@ pub extern "C" fn timed_join(text: &[u8], i: usize, j: usize, out: &mut [u8]) ->
 // The count of the prefixes of a side of row k, or the refusal as one number. Writes what Prefixes writes.
 #[no_mangle]
 pub extern "C" fn timed_prefixes(text: &[u8], k: usize, side: u8, out: &mut [u8]) -> u64
-    ensures answers { λ n. ⌜ n ≡ packed (prefixesOf (now (text .entry)) k side (now (out .entry))) ⌝ }
-    ensures writes { λ _. ⌜ now (out .exit) ≡ prefixesWritten (now (text .entry)) k side (now (out .entry)) ⌝ }
+    ensures answers { λ n. ⌜ n ≡ packed (prefixesOf (parse (now (text .entry))) k side (now (out .entry))) ⌝ }
+    ensures writes { λ _. ⌜ now (out .exit) ≡ prefixesWritten (parse (now (text .entry))) k side (now (out .entry)) ⌝ }
 {
     analyser::packed_count(analyser::prefixes(text, k, side, out))
 }

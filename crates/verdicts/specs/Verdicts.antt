@@ -23,6 +23,10 @@ abbrev pub isNone : SearchResult → Bool
 isNone none = true
 isNone (found p) = false
 
+-- Whether row i of a table is dead.
+abbrev pub dead : Table → ℕ → Bool
+dead t i = isNone (verdictOn t i)
+
 -- The verdict on row i of the runs that a table lends.
 abbrev pub verdictIn : List ℕ → List ℕ → List ℕ → ℕ → SearchResult
 verdictIn parents heads bounds i = verdictAfter (parentIn parents) (rowsIn heads bounds i) (rowIn heads bounds i)

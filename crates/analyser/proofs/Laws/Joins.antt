@@ -16,24 +16,24 @@ use Rattle.base.proofs.Laws.Decides.{decides-holds, decides-fails}
 use Rattle.policy.specs.Model.{Table, rowAt, parentOf}
 use Rattle.joining.specs.Joining.{Joinable}
 use Rattle.joining.proofs.Laws.Joining.{joinable-decides}
-use Rattle.reader.specs.States.{parse}
+use Rattle.reader.specs.States.{Parsed, tableRead}
 use Rattle.analyser.specs.Calls.{hasRoom, joinedLine, joinConditions, joinOf, joinWritten}
 use Rattle.analyser.specs.Views.{roomAnswer}
 use Rattle.analyser.proofs.Laws.Outputs.{call-broken, call-asked, call-writes}
 
 -- What the call answers, and what it leaves in the output.
-abbrev pub Does : List ℕ → ℕ → ℕ → List ℕ → Answer ℕ → List ℕ → Type 0
-Does text i j out answer after = (joinOf text i j out ≡ answer) × (joinWritten text i j out ≡ after)
+abbrev pub Does : Answer Parsed → (i j : ℕ) → List ℕ → Answer ℕ → List ℕ → Type 0
+Does x i j out answer after = (joinOf x i j out ≡ answer) × (joinWritten x i j out ≡ after)
 
-pub join-refused : (text : List ℕ) (i j : ℕ) (out : List ℕ) (number line : ℕ) → parse text ≡ refusedBy number line → Does text i j out (refusedBy number line) out
+pub join-refused : (x : Answer Parsed) (i j : ℕ) (out : List ℕ) (number line : ℕ) → x ≡ refusedBy number line → Does x i j out (refusedBy number line) out
 unfolding joinOf joinWritten
-join-refused text i j out number line e = rw e (refl, refl)
+join-refused x i j out number line e = rw e (refl, refl)
 
-module _ (text : List ℕ) (t : Table) (e : parse text ≡ returned t) (i j : ℕ) (out : List ℕ) where
-  pub join-no-row : ((i < length (t .rows)) × (j < length (t .rows)) → ⊥) → Does text i j out (refusedBy 9 0) out
+module _ (x : Answer Parsed) (t : Table) (e : x ≡ returned (tableRead t)) (i j : ℕ) (out : List ℕ) where
+  pub join-no-row : ((i < length (t .rows)) × (j < length (t .rows)) → ⊥) → Does x i j out (refusedBy 9 0) out
   unfolding joinOf joinWritten
   join-no-row n =
-      call-broken (joinConditions i j) (λ l. l) length (joinedLine i j) out (parse text) t e 9
+      call-broken (joinConditions i j) (λ l. l) length (joinedLine i j) out x t e 9
       (elim (decLt i (length (t .rows))) [
         | yes l ↦ inr (lt-ltb _ _ l, elim (decLt j (length (t .rows))) [ yes m ↦ absurd (n (l, m)) | no m ↦ inl (le-ltb j (length (t .rows)) (omega arith), refl) ])
         | no l ↦ inl (le-ltb i (length (t .rows)) (omega arith), refl)
@@ -41,10 +41,10 @@ module _ (text : List ℕ) (t : Table) (e : parse text ≡ returned t) (i j : �
 
   -- both rows are there
   module _ (h : i < length (t .rows)) (k : j < length (t .rows)) where
-    pub join-differ : (Joinable (parentOf t) (rowAt t i) (rowAt t j) → ⊥) → Does text i j out (refusedBy 11 0) out
+    pub join-differ : (Joinable (parentOf t) (rowAt t i) (rowAt t j) → ⊥) → Does x i j out (refusedBy 11 0) out
     unfolding joinOf joinWritten
     join-differ n =
-        call-broken (joinConditions i j) (λ l. l) length (joinedLine i j) out (parse text) t e 11
+        call-broken (joinConditions i j) (λ l. l) length (joinedLine i j) out x t e 11
         (inr (lt-ltb _ _ h, inr (lt-ltb _ _ k, inl (decides-fails _ (joinable-decides (parentOf t) (rowAt t i) (rowAt t j)) n, refl))))
 
     -- and can be joined
@@ -54,14 +54,14 @@ module _ (text : List ℕ) (t : Table) (e : parse text ≡ returned t) (i j : �
 
       -- Only the room is asked for.
       pub join-asked : let asked = given (hasRoom (joinedLine i j t) out ∷ []) (joinedLine i j t) in
-          Does text i j out (told length asked) (wrote (λ l. l) asked out)
+          Does x i j out (told length asked) (wrote (λ l. l) asked out)
       unfolding joinOf joinWritten
       join-asked =
-          let a = call-asked (joinConditions i j) (λ l. l) length (joinedLine i j) out (parse text) t e join-kept in
+          let a = call-asked (joinConditions i j) (λ l. l) length (joinedLine i j) out x t e join-kept in
           (ap (told length) a, ap (λ y. wrote (λ l. l) y out) a)
 
       -- The line is written where there is room.
       pub join-writes : (after : List ℕ) (r : Written) → Writes (joinedLine i j t) out after r
-          → (roomAnswer r ≡ joinOf text i j out) × (after ≡ joinWritten text i j out)
+          → (roomAnswer r ≡ joinOf x i j out) × (after ≡ joinWritten x i j out)
       unfolding joinOf joinWritten
-      join-writes after r w = call-writes (joinConditions i j) (λ l. l) length (joinedLine i j) out (parse text) t e join-kept after r w
+      join-writes after r w = call-writes (joinConditions i j) (λ l. l) length (joinedLine i j) out x t e join-kept after r w

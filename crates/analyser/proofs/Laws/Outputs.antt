@@ -25,8 +25,8 @@ use Rattle.base.proofs.Laws.Outputs.{fits-not, fits-all}
 use Rattle.base.proofs.Laws.Answers.{Kept, Broken, given-broken, given-after, broken-first, Told, told-why, Why, refused-why, told-room, wrote-room, wrote-refused}
 use Rattle.policy.specs.Model.{Table}
 use Rattle.frames.specs.Refusals.{shortOutput}
-use Rattle.reader.specs.States.{parse}
-use Rattle.kinds.specs.Entries.{entries}
+use Rattle.reader.specs.States.{Parsed, tableRead}
+use Rattle.kinds.specs.Entries.{Entry, entries}
 use Rattle.listing.specs.Bytes.{bytes, entryBytes}
 use Rattle.listing.proofs.Laws.Puts.{length-bytes}
 use Rattle.striking.specs.Texts.{struckText}
@@ -48,13 +48,13 @@ module _ (result out : List ℕ) where
 -- ---- a call
 
 module _ {A : Type 0} (conditions : Table → List Check) (result : A → List ℕ) (tell : A → ℕ) (value : Table → A) (out : List ℕ) where
-  abbrev pub answerTo : Answer Table → Answer ℕ
+  abbrev pub answerTo : Answer Parsed → Answer ℕ
   answerTo x = told tell (writing conditions result value out x)
 
-  abbrev pub outputAfter : Answer Table → List ℕ
+  abbrev pub outputAfter : Answer Parsed → List ℕ
   outputAfter x = wrote result (writing conditions result value out x) out
 
-  module _ (x : Answer Table) (t : Table) (e : x ≡ returned t) where
+  module _ (x : Answer Parsed) (t : Table) (e : x ≡ returned (tableRead t)) where
     -- A condition that is broken.
     pub call-broken : (n : ℕ) → Broken (conditions t) n → (answerTo x ≡ refusedBy n 0) × (outputAfter x ≡ out)
     call-broken n h =
@@ -87,47 +87,58 @@ module _ {A : Type 0} (conditions : Table → List Check) (result : A → List �
           → (answerTo x ≡ returned (tell (value t))) × (outputAfter x ≡ result (value t) ++ drop (length (result (value t))) out)
       call-whole h = let n = fits-all (result (value t)) out h in (answer-accepted ∙ rw n, output-accepted ∙ rw n)
 
--- ---- List and Strike
+-- ---- List
 
-module _ (text out : List ℕ) where
-  abbrev pub listConditions : Table → List Check
-  listConditions t = hasRoom (bytes (entries t)) out ∷ []
+module _ (x : Answer Parsed) (out : List ℕ) where
+  -- The entries of what was read, and that they have room.
+  abbrev pub entriesRead : Parsed → List Entry
+  entriesRead r = entries (r .table)
 
-  abbrev pub strikeConditions : Table → List Check
-  strikeConditions t = hasRoom (struckText text t) out ∷ []
+  abbrev pub listConditions : Parsed → List Check
+  listConditions r = hasRoom (bytes (entriesRead r)) out ∷ []
 
-  pub list-told : (n : ℕ) → listOf text out ≡ returned n → Told listConditions entries length (parse text) n
+  pub list-told : (n : ℕ) → listOf x out ≡ returned n → Told listConditions entriesRead length x n
   unfolding listOf
-  list-told n e = told-why listConditions entries length (parse text) n e
+  list-told n e = told-why listConditions entriesRead length x n e
 
-  pub list-refused : (number line : ℕ) → listOf text out ≡ refusedBy number line → Why listConditions (parse text) number line
+  pub list-refused : (number line : ℕ) → listOf x out ≡ refusedBy number line → Why listConditions x number line
   unfolding listOf
-  list-refused number line e = refused-why listConditions entries length (parse text) number line e
+  list-refused number line e = refused-why listConditions entriesRead length x number line e
 
-  pub strike-told : (n : ℕ) → strikeOf text out ≡ returned n → Told strikeConditions (struckText text) length (parse text) n
-  unfolding strikeOf
-  strike-told n e = told-why strikeConditions (struckText text) length (parse text) n e
-
-  pub strike-refused : (number line : ℕ) → strikeOf text out ≡ refusedBy number line → Why strikeConditions (parse text) number line
-  unfolding strikeOf
-  strike-refused number line e = refused-why strikeConditions (struckText text) length (parse text) number line e
-
-  pub list-wrote : {n : ℕ} (w : Told listConditions entries length (parse text) n)
-      → listWritten text out ≡ bytes (entries (w .of)) ++ drop (length (bytes (entries (w .of)))) out
+  pub list-wrote : {n : ℕ} (w : Told listConditions entriesRead length x n)
+      → listWritten x out ≡ bytes (entriesRead (w .of)) ++ drop (length (bytes (entriesRead (w .of)))) out
   unfolding listWritten
-  list-wrote w = call-whole noConditions bytes length entries out (parse text) (w .of) (w .read) tt (room (bytes (entries (w .of))) out (w .keeps)) .1
-
-  pub strike-wrote : {n : ℕ} (w : Told strikeConditions (struckText text) length (parse text) n)
-      → strikeWritten text out ≡ struckText text (w .of) ++ drop (length (struckText text (w .of))) out
-  unfolding strikeWritten
-  strike-wrote w = call-whole noConditions (λ l. l) length (struckText text) out (parse text) (w .of) (w .read) tt (room (struckText text (w .of)) out (w .keeps)) .1
-
-  pub strike-left : (number line : ℕ) → strikeOf text out ≡ refusedBy number line → strikeWritten text out ≡ out
-  unfolding strikeOf strikeWritten
-  strike-left number line e = wrote-refused length (λ l. l) out (writing noConditions (λ l. l) (struckText text) out (parse text)) number line e
+  list-wrote w = call-whole noConditions bytes length entries out x (w .of .table) (w .read) tt (room (bytes (entriesRead (w .of))) out (w .keeps)) .1
 
   -- As many entries as are counted have room.
-  pub count-fits : (r : Counted) (n : ℕ) → countAnswer r ≡ listOf text out → r ≡ Count n → entryBytes * n ≤ length out
+  pub count-fits : (r : Counted) (n : ℕ) → countAnswer r ≡ listOf x out → r ≡ Count n → entryBytes * n ≤ length out
   count-fits r n a e =
       let w = list-told n (sym a ∙ ap countAnswer e) in
-      omega (arith, w .tells, room (bytes (entries (w .of))) out (w .keeps), length-bytes (entries (w .of)))
+      omega (arith, w .tells, room (bytes (entriesRead (w .of))) out (w .keeps), length-bytes (entriesRead (w .of)))
+
+-- ---- Strike
+
+module _ (text : List ℕ) (x : Answer Parsed) (out : List ℕ) where
+  -- The struck text of what was read, and that it has room.
+  abbrev pub struckRead : Parsed → List ℕ
+  struckRead r = struckText text (r .table)
+
+  abbrev pub strikeConditions : Parsed → List Check
+  strikeConditions r = hasRoom (struckRead r) out ∷ []
+
+  pub strike-told : (n : ℕ) → strikeOf text x out ≡ returned n → Told strikeConditions struckRead length x n
+  unfolding strikeOf
+  strike-told n e = told-why strikeConditions struckRead length x n e
+
+  pub strike-refused : (number line : ℕ) → strikeOf text x out ≡ refusedBy number line → Why strikeConditions x number line
+  unfolding strikeOf
+  strike-refused number line e = refused-why strikeConditions struckRead length x number line e
+
+  pub strike-wrote : {n : ℕ} (w : Told strikeConditions struckRead length x n)
+      → strikeWritten text x out ≡ struckRead (w .of) ++ drop (length (struckRead (w .of))) out
+  unfolding strikeWritten
+  strike-wrote w = call-whole noConditions (λ l. l) length (struckText text) out x (w .of .table) (w .read) tt (room (struckRead (w .of)) out (w .keeps)) .1
+
+  pub strike-left : (number line : ℕ) → strikeOf text x out ≡ refusedBy number line → strikeWritten text x out ≡ out
+  unfolding strikeOf strikeWritten
+  strike-left number line e = wrote-refused length (λ l. l) out (writing noConditions (λ l. l) (struckText text) out x) number line e

@@ -16,7 +16,7 @@ use Rattle.policy.specs.Model.{Selector, Table}
 use Rattle.policy.specs.Wellformed.{SelectorRule}
 use Rattle.prefixes.specs.Bytes.{prefixBytes}
 use Rattle.prefixes.specs.Sides.{sideOf}
-use Rattle.reader.specs.States.{parse}
+use Rattle.reader.specs.States.{Parsed, tableRead}
 use Rattle.analyser.specs.Calls.{addressBytes, rowPrefixes, prefixConditions, prefixesOf, prefixesWritten}
 use Rattle.analyser.specs.Views.{roomAnswer}
 use Rattle.analyser.proofs.Laws.Outputs.{call-broken, call-writes}
@@ -30,25 +30,25 @@ side-fits (a ∷ b ∷ s) (suc zero) h r = r .fits .1 .0
 side-fits (a ∷ b ∷ s) (suc (suc side)) h r = absurd (omega arith)
 
 -- What the call answers, and what it leaves in the output.
-abbrev pub Does : List ℕ → ℕ → ℕ → List ℕ → Answer ℕ → List ℕ → Type 0
-Does text k side out answer after = (prefixesOf text k side out ≡ answer) × (prefixesWritten text k side out ≡ after)
+abbrev pub Does : Answer Parsed → (k side : ℕ) → List ℕ → Answer ℕ → List ℕ → Type 0
+Does x k side out answer after = (prefixesOf x k side out ≡ answer) × (prefixesWritten x k side out ≡ after)
 
-pub prefixes-refused : (text : List ℕ) (k side : ℕ) (out : List ℕ) (number line : ℕ) → parse text ≡ refusedBy number line → Does text k side out (refusedBy number line) out
+pub prefixes-refused : (x : Answer Parsed) (k side : ℕ) (out : List ℕ) (number line : ℕ) → x ≡ refusedBy number line → Does x k side out (refusedBy number line) out
 unfolding prefixesOf prefixesWritten
-prefixes-refused text k side out number line e = rw e (refl, refl)
+prefixes-refused x k side out number line e = rw e (refl, refl)
 
-module _ (text : List ℕ) (t : Table) (e : parse text ≡ returned t) (k side : ℕ) (out : List ℕ) where
-  pub prefixes-no-row : length (t .rows) ≤ k → Does text k side out (refusedBy 9 0) out
+module _ (x : Answer Parsed) (t : Table) (e : x ≡ returned (tableRead t)) (k side : ℕ) (out : List ℕ) where
+  pub prefixes-no-row : length (t .rows) ≤ k → Does x k side out (refusedBy 9 0) out
   unfolding prefixesOf prefixesWritten
   prefixes-no-row h =
-      call-broken (prefixConditions k side) (prefixBytes addressBytes) length (rowPrefixes k side) out (parse text) t e 9 (inl (le-ltb k (length (t .rows)) h, refl))
+      call-broken (prefixConditions k side) (prefixBytes addressBytes) length (rowPrefixes k side) out x t e 9 (inl (le-ltb k (length (t .rows)) h, refl))
 
   -- the row is there
   module _ (h : k < length (t .rows)) where
-    pub prefixes-no-side : 1 < side → Does text k side out (refusedBy 12 0) out
+    pub prefixes-no-side : 1 < side → Does x k side out (refusedBy 12 0) out
     unfolding prefixesOf prefixesWritten
     prefixes-no-side n =
-        call-broken (prefixConditions k side) (prefixBytes addressBytes) length (rowPrefixes k side) out (parse text) t e 12
+        call-broken (prefixConditions k side) (prefixBytes addressBytes) length (rowPrefixes k side) out x t e 12
         (inr (lt-ltb k (length (t .rows)) h, inl (lt-leb side 1 n, refl)))
 
     -- and the side is
@@ -59,7 +59,7 @@ module _ (text : List ℕ) (t : Table) (e : parse text ≡ returned t) (k side :
       -- The prefixes are written where there is room.
       pub prefixes-writes : (after : List ℕ) (r : Written)
           → WritesCounted (length (rowPrefixes k side t)) (prefixBytes addressBytes (rowPrefixes k side t)) out after r
-          → (roomAnswer r ≡ prefixesOf text k side out) × (after ≡ prefixesWritten text k side out)
+          → (roomAnswer r ≡ prefixesOf x k side out) × (after ≡ prefixesWritten x k side out)
       unfolding prefixesOf prefixesWritten
       prefixes-writes after r w =
-          call-writes (prefixConditions k side) (prefixBytes addressBytes) length (rowPrefixes k side) out (parse text) t e prefixes-kept after r w
+          call-writes (prefixConditions k side) (prefixBytes addressBytes) length (rowPrefixes k side) out x t e prefixes-kept after r w

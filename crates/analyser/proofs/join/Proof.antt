@@ -25,6 +25,7 @@ use Rattle.frames.specs.Rows.{lineOfRow}
 use Rattle.reader.proofs.Laws.Readers.{table-sized}
 use Rattle.analyser.specs.Calls.{joinedLine, joinOf, joinWritten}
 use Rattle.analyser.specs.Views.{roomAnswer}
+use Rattle.reader.specs.States.{parse}
 use Rattle.analyser.proofs.Laws.Joins.{join-refused, join-no-row, join-differ, join-writes}
 use Rattle.calls.proofs.Laws.Texts.{Accepted, text-refused, accepted}
 use Rattle.analyser.proofs.join.Statement.{statement}
@@ -159,8 +160,8 @@ module _ (c : tie.After-put-line) where
       ap (lineOfRow 5 widths)
       (c .before .before .joined .ensures ∙ (λ x. joined (parents f x) (first-row (rows known) x) (second-row (rows known) x)))
 
-  done : (roomAnswer (c .put-line .result) ≡ joinOf (now (s (e f) .args .text)) (i f) (j f) (now (s (e f) .args .out)))
-      × (c .put-line .last .1 .1 .1 .0 ≡ joinWritten (now (s (e f) .args .text)) (i f) (j f) (now (s (e f) .args .out)))
+  done : (roomAnswer (c .put-line .result) ≡ joinOf (parse (now (s (e f) .args .text))) (i f) (j f) (now (s (e f) .args .out)))
+      × (c .put-line .last .1 .1 .1 .0 ≡ joinWritten (parse (now (s (e f) .args .text))) (i f) (j f) (now (s (e f) .args .out)))
   done =
       join-writes _ _ (taken (e f) .read) _ _ _ (first-there f) (second-there f) (decides known .yes (can-join tried)) _ _
       (subst (λ (l : List ℕ). Writes l (now (s (e f) .args .out)) (c .put-line .last .1 .1 .1 .0) (c .put-line .result)) line (c .put-line .ensures))

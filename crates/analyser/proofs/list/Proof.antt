@@ -4,6 +4,7 @@ use mathlib.Core.Path.{_≡_, refl, _∙_}
 use denote.Ref.{now}
 use lib.ListN.{length}
 use Rattle.reader.proofs.Laws.Readers.{table-sized}
+use Rattle.reader.specs.States.{parse}
 use Rattle.kinds.specs.Entries.{entries}
 use Rattle.listing.specs.Bytes.{bytes}
 use Rattle.analyser.specs.Calls.{noConditions, listOf, listWritten}
@@ -23,7 +24,8 @@ taken c = let r = c .before .before .read in accepted _ (table-sized (r .result)
 
 -- the entries are written
 done : (c : tie.After-list) → let s = c .before .before .before .before .before .before .before .args in
-    (roomAnswer (c .list .result) ≡ listOf (now (s .text)) (now (s .out))) × (c .list .last .1 .0 ≡ listWritten (now (s .text)) (now (s .out)))
+    (roomAnswer (c .list .result) ≡ listOf (parse (now (s .text))) (now (s .out)))
+    × (c .list .last .1 .0 ≡ listWritten (parse (now (s .text))) (now (s .out)))
 unfolding listOf listWritten
 done c =
     call-writes noConditions bytes length entries (now (c .before .before .before .before .before .before .before .args .out)) _ _ (taken (c .before .before) .read) tt _ _ (c .list .ensures)

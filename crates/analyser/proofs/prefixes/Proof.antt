@@ -17,6 +17,7 @@ use Rattle.prefixes.specs.Sides.{sideOf}
 use Rattle.reader.proofs.Laws.Readers.{table-sized}
 use Rattle.analyser.specs.Calls.{prefixesOf, prefixesWritten}
 use Rattle.analyser.specs.Views.{roomAnswer}
+use Rattle.reader.specs.States.{parse}
 use Rattle.analyser.proofs.Laws.Prefixes.{prefixes-refused, prefixes-no-row, prefixes-no-side, prefixes-writes, side-fits}
 use Rattle.calls.proofs.Laws.Texts.{Accepted, text-refused, accepted}
 use Rattle.analyser.proofs.prefixes.Statement.{statement}
@@ -107,8 +108,8 @@ module _ (c : tie.After-put) where
   abbrev q : tie.After-addresses
   q = c .before .before
 
-  done : (roomAnswer (c .put .result) ≡ prefixesOf (now (s (one q) .args .text)) (k q) (side (i q)) (now (s (one q) .args .out)))
-      × (c .put .last .1 .1 .0 ≡ prefixesWritten (now (s (one q) .args .text)) (k q) (side (i q)) (now (s (one q) .args .out)))
+  done : (roomAnswer (c .put .result) ≡ prefixesOf (parse (now (s (one q) .args .text))) (k q) (side (i q)) (now (s (one q) .args .out)))
+      × (c .put .last .1 .1 .0 ≡ prefixesWritten (parse (now (s (one q) .args .text))) (k q) (side (i q)) (now (s (one q) .args .out)))
   done =
       prefixes-writes _ _ (taken (one q) .read) (k q) (side (i q)) (now (s (one q) .args .out)) (there (f (i q))) (side-there (h q)) _ _
       (subst (λ (r : Range). Puts 4 r (now (s (one q) .args .out)) (c .put .last .1 .1 .0) (c .put .result)) (range q) (c .put .ensures))

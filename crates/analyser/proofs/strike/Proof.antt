@@ -4,6 +4,7 @@ use mathlib.Core.Path.{_≡_, refl, _∙_}
 use denote.Ref.{now}
 use lib.ListN.{length}
 use Rattle.reader.proofs.Laws.Readers.{table-sized}
+use Rattle.reader.specs.States.{parse}
 use Rattle.striking.specs.Texts.{struckText}
 use Rattle.analyser.specs.Calls.{noConditions, strikeOf, strikeWritten}
 use Rattle.analyser.specs.Views.{roomAnswer}
@@ -22,7 +23,8 @@ taken c = let r = c .before .before .read in accepted _ (table-sized (r .result)
 
 -- the text is struck
 done : (c : tie.After-strike) → let s = c .before .before .before .before .before .before .before .args in
-    (roomAnswer (c .strike .result) ≡ strikeOf (now (s .text)) (now (s .out))) × (c .strike .last .1 .1 .0 ≡ strikeWritten (now (s .text)) (now (s .out)))
+    (roomAnswer (c .strike .result) ≡ strikeOf (now (s .text)) (parse (now (s .text))) (now (s .out)))
+    × (c .strike .last .1 .1 .0 ≡ strikeWritten (now (s .text)) (parse (now (s .text))) (now (s .out)))
 unfolding strikeOf strikeWritten
 done c = call-writes noConditions (λ l. l) length (struckText _) _ _ _ (taken (c .before .before) .read) tt _ _ (c .strike .ensures)
 

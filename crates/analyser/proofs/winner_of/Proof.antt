@@ -11,6 +11,7 @@ use Rattle.policy.specs.declared.table.Table.{Table as TableStruct}
 use Rattle.policy.proofs.Laws.Tables.{parents-same}
 use Rattle.relations.specs.Groups.{winnerIn}
 use Rattle.relations.proofs.Laws.Tables.{lent-parents}
+use Rattle.reader.specs.States.{parse}
 use Rattle.reader.proofs.Laws.Readers.{table-sized}
 use Rattle.analyser.specs.Calls.{outcomeOf, winnerOf}
 use Rattle.analyser.proofs.Laws.Calls.{winner-no-row, winner-no-entity, winner-found}
@@ -84,7 +85,7 @@ asked c κs =
     (record { parents = lent-parents (t (i e)) (k .sized) (k .held) (k .well); source = omega arith; destination = omega arith }, c .before .before .before .before .before .before .before .before .if2 .left, omega arith)
 
 answer : (c : tie.After-winner) → let q = s (i (c .before .before .before .before .before)) .args in
-    returned (outcomeOf (c .winner .result)) ≡ winnerOf (now (q .text)) (q .k) (q .p .source) (q .p .destination) (packetOf (q .p .packet))
+    returned (outcomeOf (c .winner .result)) ≡ winnerOf (parse (now (q .text))) (q .k) (q .p .source) (q .p .destination) (packetOf (q .p .packet))
 answer c =
     let e = c .before .before .before .before .before in
     let v = t (i e) in

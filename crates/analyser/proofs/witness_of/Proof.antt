@@ -19,7 +19,7 @@ use Rattle.analyser.proofs.witness_of.Tie as tie
 
 refused : tie.Need-returns
 unfolding witnessOf
-refused c = sym (row-refused verdictOn _ _ (c .before .read .ensures) (c .if1 .taken))
+refused c = sym (row-refused verdictOn _ (c .before .read .ensures) (c .if1 .taken))
 
 -- the text is accepted
 taken : (c : tie.Else1) → Accepted (now (c .before .before .before .args .text)) (c .before .read .result)
@@ -27,7 +27,7 @@ taken c = let r = c .before .read in accepted _ (table-sized (r .result) (r .ok)
 
 no-row : tie.Need-returns-2
 unfolding witnessOf
-no-row c = sym (row-missing verdictOn _ _ (taken (c .before)) (omega (arith, c .if2 .taken)))
+no-row c = sym (row-missing verdictOn _ (taken (c .before)) (omega (arith, c .if2 .taken)))
 
 -- and has the row
 there : (c : tie.Else2) → c .before .before .before .before .args .k < c .before .before .read .result .table .rows

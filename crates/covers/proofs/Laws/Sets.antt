@@ -1,10 +1,11 @@
--- Laws that the loops over a set of boxes follow, from box to box: the next one, and what is known of those before it.
+-- Laws of sets of boxes, which the loops over a set follow from box to box: the next one, and what is known of those before it. And of the packets that
+-- chosen boxes hold.
 -- Assumes nothing.
 use Prim.Native.Nat.{ℕ, _-_, _*_, _^_, _<_}
 use mathlib.Core.Path.{_≡_, refl, sym, ap, subst, _∙_}
 use mathlib.Core.Bool.{Bool, true, false, _&&_, true≢false}
 use mathlib.Core.Logic.{_⊎_, inl, inr}
-use mathlib.Core.List.{List}
+use mathlib.Core.List.{List, _∷_}
 use native.Mathlib.Nat.{one-mul, zero-mul}
 use native.Mathlib.Omega.{arith}
 use lib.Bits.{bitAnd, bitOr, and-le-r}
@@ -16,10 +17,11 @@ use Rattle.base.specs.Bits.{marked}
 use Rattle.base.proofs.Laws.Bits.{none-marked, one-marked, one-alone, small-marked, marked-and, marked-or, first-bit, less-others}
 use Rattle.base.proofs.Laws.Decides.{decides-and, decides-or, decides-eqb, decides-itself, decides-holds, decided}
 use Rattle.policy.specs.Limits.{mostSelectors}
-use Rattle.policy.specs.Model.{Range}
+use Rattle.policy.specs.Model.{Range, Selector, Packet}
 use Rattle.relations.specs.Ranges.{Within, within}
-use Rattle.relations.proofs.Laws.Selectors.{within-decides}
-use Rattle.covers.specs.Sets.{In, Numbered, Narrowed}
+use Rattle.relations.specs.Selectors.{Holds}
+use Rattle.relations.proofs.Laws.Selectors.{within-decides, holds-both, holds-first, holds-rest}
+use Rattle.covers.specs.Sets.{In, Numbered, Narrowed, HeldBy}
 
 -- ---- two sets
 
@@ -139,3 +141,28 @@ module _ (field : ℕ → Range) (set v : ℕ) where
 
   pub held-all : (held rest : ℕ) → rest ≡ 0 → HeldBefore field set v held rest → Narrowed field (In set) v (In held)
   held-all held rest z h = record { part = h .part; holds = h .holds; all = λ i m. h .all i m (none-left rest i z) }
+
+-- ---- the packets that chosen boxes hold
+
+-- Boxes of which more are chosen hold what they held.
+pub more-held : (box : ℕ → Selector) {P Q : ℕ → Type 0} (q : Packet) → ((k : ℕ) → P k → Q k) → HeldBy box P q → HeldBy box Q q
+more-held box q f h = record { place = h .place; choice = f (h .place) (h .choice); holds = h .holds }
+
+-- The boxes are a first field and the rest.
+module _ (box rest : ℕ → Selector) (head : ℕ → Range) (split : (k : ℕ) → box k ≡ head k ∷ rest k) where
+  -- With x in the first field, where the chosen boxes hold it.
+  pub wider : {P Q : ℕ → Type 0} (x : ℕ) (q : Packet) → ((k : ℕ) → P k → Q k) → ((k : ℕ) → P k → Within (head k) x) → HeldBy rest P q → HeldBy box Q (x ∷ q)
+  wider x q f w h =
+      let k = h .place in
+      record {
+        place = k;
+        choice = f k (h .choice);
+        holds = subst (λ (b : Selector). Holds b (x ∷ q)) (sym (split k)) (holds-both (head k) (rest k) x q (w k (h .choice)) (h .holds));
+      }
+
+  -- Without it, by those of the boxes that hold it.
+  pub narrower : {P Q : ℕ → Type 0} (v : ℕ) (q : Packet) → Narrowed head P v Q → HeldBy box P (v ∷ q) → HeldBy rest Q q
+  narrower v q n h =
+      let k = h .place in
+      let t : Holds (head k ∷ rest k) (v ∷ q) = subst (λ (b : Selector). Holds b (v ∷ q)) (split k) (h .holds) in
+      record { place = k; choice = n .all k (h .choice) (holds-first (head k) (rest k) v q t); holds = holds-rest (head k) (rest k) v q t }

@@ -7,6 +7,7 @@ use Rattle.policy.specs.Model.{Table, filterAt}
 use Rattle.policy.specs.Wellformed.{Wellformed}
 use Rattle.base.specs.Truths.{Decides}
 use Rattle.base.proofs.Laws.Decides.{decides-false, decides-eqb, decides-ltb, decides-given}
+use Rattle.verdicts.proofs.Laws.Verdicts.{dead-decides}
 use Rattle.kinds.specs.Meanings.{IsRow, IsFilter}
 use Rattle.kinds.specs.Tests.{pairAt}
 use Rattle.kinds.specs.Seen.{seenOf}
@@ -51,7 +52,7 @@ module _ (t : Table) (w : Wellformed t) where
       ▹ (λ i h. rows.cyclic-decides t w i)
       ▹ pairs.monitorable-decides t w
       ▹ paths.alternativePath-decides t w
-      ▹ rows.dead-decides t w
+      ▹ dead-decides t w
       ▹ (λ k m h. filters.filterShadowing-decides t w k m)
       ▹ (λ k m h. filters.filterRedundancy-decides t w k m)
       ▹ tt

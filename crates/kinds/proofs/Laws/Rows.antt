@@ -13,18 +13,14 @@ use Rattle.policy.specs.Wellformed.{Wellformed}
 use Rattle.base.specs.Truths.{Decides}
 use Rattle.relations.specs.Coefficients.{AtLeast, atLeast}
 use Rattle.relations.specs.Selectors.{Contains, Overlap}
-use Rattle.relations.specs.Groups.{Dead}
 use Rattle.base.proofs.Laws.Decides.{decides-true, decides-false, decides-as, decides-and, decides-or, decides-not, decides-eqb, decided}
 use Rattle.base.proofs.Laws.Members.{among-decides, same-decides, Some, some-decides}
 use Rattle.relations.proofs.Laws.Technologies.{has-layer}
 use Rattle.relations.proofs.Laws.Coefficients.{atLeast-decides}
 use Rattle.relations.proofs.Laws.Selectors.{contains-decides, overlaps-decides, sameSelector-decides}
-use Rattle.covers.specs.Least.{SearchResult, found, none}
-use Rattle.verdicts.specs.Verdicts.{verdictOn, isNone}
-use Rattle.verdicts.proofs.Laws.Verdicts.{verdicts}
 use Rattle.kinds.specs.Meanings.{IsRow, IsFilter, sourceRoot, destinationRoot, InternalLoop, OutOfPlace, Lacks, NonEnforceable, Inadequate, Rides, Superfluous, Excepts, Filtered, LayerTwo, Answers, Asymmetric, Cyclic}
 use Rattle.kinds.specs.Views.{placedAt}
-use Rattle.kinds.specs.Tests.{empty, internalLoop, outOfPlace, lacks, nonEnforceable, inadequate, rides, superfluous, filters, excepts, excepted, filteredBy, filtered, layerTwo, answers, asymmetric, cyclic, dead}
+use Rattle.kinds.specs.Tests.{empty, internalLoop, outOfPlace, lacks, nonEnforceable, inadequate, rides, superfluous, filters, excepts, excepted, filteredBy, filtered, layerTwo, answers, asymmetric, cyclic}
 use Rattle.kinds.proofs.Laws.Lists.{inOrder-decides, twice-decides}
 use Rattle.kinds.proofs.Laws.Pairs.{selector-ordered}
 use Rattle.kinds.proofs.Laws.Filters.{filter-ordered}
@@ -32,10 +28,6 @@ use Rattle.kinds.proofs.Laws.Filters.{filter-ordered}
 empty-decides : (l : List ℕ) → Decides (empty l) (l ≡ [])
 empty-decides [] = decides-true refl
 empty-decides (x ∷ l) = decides-false (λ e. let z : _≡_ {A = ℕ} 0 1 = cc in omega arith)
-
-isNone-decides : (a : SearchResult) → Decides (isNone a) (a ≡ none)
-isNone-decides none = decides-true refl
-isNone-decides (found p) = decides-false (λ e. let z : _≡_ {A = ℕ} 0 1 = cc in omega arith)
 
 module _ (t : Table) (w : Wellformed t) where
   pub internalLoop-decides : (i : ℕ) → Decides (internalLoop (placedAt t i)) (InternalLoop t i)
@@ -137,8 +129,3 @@ module _ (t : Table) (w : Wellformed t) where
   pub cyclic-decides : (i : ℕ) → Decides (cyclic (placedAt t i)) (Cyclic t i)
   unfolding cyclic
   cyclic-decides i = twice-decides _
-
-  pub dead-decides : (i : ℕ) → IsRow t i → Decides (dead t i) (Dead t i)
-  dead-decides i h =
-      let v = verdicts t w i h .dead in
-      decides-as (v .0) (v .1) (isNone-decides (verdictOn t i))

@@ -15,19 +15,20 @@ use Rattle.policy.specs.Views.{rangeIn}
 use Rattle.relations.specs.Ranges.{Within}
 use Rattle.covers.specs.Sets.{In, Numbered, fieldOf, Narrowed}
 use Rattle.covers.proofs.Laws.Places.{of-first, in-first}
+use Rattle.covers.specs.Views.{NextValue, comes, end}
 use Rattle.mesh.specs.Promises.{Cut}
-use Rattle.mesh.specs.Views.{NextCut, cut, end, reachedOf, Nearest, fieldsOf, cutsOf, Listed, AskedField, mostCuts, setCount, setAt, Marked, Written}
+use Rattle.mesh.specs.Views.{reachedOf, Nearest, fieldsOf, cutsOf, Listed, AskedField, mostCuts, setCount, setAt, Marked, Written}
 use Rattle.mesh.proofs.Laws.Cuts.{cuts-laws, cuts-few, cuts-first, cuts-next, cuts-last}
 
 -- ---- one cut after another
 
 -- Cut n of the list, or that there are n.
-abbrev pub AtCut : List ℕ → ℕ → NextCut → Type 0
-AtCut cs n (cut w) = (n < length cs) × (getD cs n 0 ≡ w)
+abbrev pub AtCut : List ℕ → ℕ → NextValue → Type 0
+AtCut cs n (comes w) = (n < length cs) × (getD cs n 0 ≡ w)
 AtCut cs n end = n ≡ length cs
 
 -- The sets of the first n intervals are written, and `next` is the next cut.
-pub record Filling (bounds numbers : List ℕ) (count row f : ℕ) (before sets : List ℕ) (n : ℕ) (next : NextCut) : Type 0 where
+pub record Filling (bounds numbers : List ℕ) (count row f : ℕ) (before sets : List ℕ) (n : ℕ) (next : NextValue) : Type 0 where
   pub long : length sets ≡ setCount
   pub reached : AtCut (cutsOf bounds numbers count row f) n next
   pub marked : Marked bounds numbers count row f sets n
@@ -50,30 +51,30 @@ module _ (bounds numbers : List ℕ) (count row f : ℕ) (listed : Listed number
       let h = listed .few in
       omega (arith, cuts-few r qs)
 
-  pub at-first : AtCut cs 0 (cut (r .low))
+  pub at-first : AtCut cs 0 (comes (r .low))
   at-first = cuts-first r qs (asked .ordered)
 
   -- A cut is in the row's range.
-  pub cut-within : (n v : ℕ) → AtCut cs n (cut v) → Within r v
+  pub cut-within : (n v : ℕ) → AtCut cs n (comes v) → Within r v
   cut-within n v h = cuts-laws r qs (asked .ordered) .exact v .0 (subst (λ (x : ℕ). List·Memᴰ x cs) (h .1) (at-member 0 cs n (h .0))) .inside
 
   -- The nearest after a cut is the next of the list.
-  pub at-next : (n v : ℕ) (next : NextCut) → AtCut cs n (cut v) → Nearest (Cut r qs) v next → AtCut cs (n + 1) next
-  at-next n v (cut w) h m =
+  pub at-next : (n v : ℕ) (next : NextValue) → AtCut cs n (comes v) → Nearest (Cut r qs) v next → AtCut cs (n + 1) next
+  at-next n v (comes w) h m =
       cuts-next r qs (asked .ordered) n (h .0) w (m .0) (omega (arith, h .1, m .1)) (λ x c l. m .2 x c (omega (arith, h .1)))
   at-next n v end h m = cuts-last r qs (asked .ordered) n (h .0) (λ x c l. m x c (omega (arith, h .1)))
 
   -- It is reached where the list goes on.
-  pub next-reached : (n v : ℕ) (next : NextCut) → n < length cs → AtCut cs n next → reachedOf next v ≡ getD cs n 0
-  next-reached n v (cut w) l h = sym (h .1)
+  pub next-reached : (n v : ℕ) (next : NextValue) → n < length cs → AtCut cs n next → reachedOf next v ≡ getD cs n 0
+  next-reached n v (comes w) l h = sym (h .1)
   next-reached n v end l h = absurd (omega arith)
 
   -- ---- the sets
 
-  pub filling-start : (before : List ℕ) (low : ℕ) → length before ≡ setCount → low ≡ r .low → Filling bounds numbers count row f before before 0 (cut low)
+  pub filling-start : (before : List ℕ) (low : ℕ) → length before ≡ setCount → low ≡ r .low → Filling bounds numbers count row f before before 0 (comes low)
   filling-start before low l e = record {
     long = l;
-    reached = subst (λ (x : ℕ). AtCut cs 0 (cut x)) (sym e) at-first;
+    reached = subst (λ (x : ℕ). AtCut cs 0 (comes x)) (sym e) at-first;
     marked = λ i h. absurd (omega arith);
     others = λ m h. refl;
   }
@@ -90,7 +91,7 @@ module _ (bounds numbers : List ℕ) (count row f : ℕ) (listed : Listed number
     all = λ k m. h .all k (in-first count k m);
   }
 
-  pub filling-next : (before sets : List ℕ) (n v s : ℕ) (next : NextCut) → Filling bounds numbers count row f before sets n (cut v)
+  pub filling-next : (before sets : List ℕ) (n v s : ℕ) (next : NextValue) → Filling bounds numbers count row f before sets n (comes v)
       → Narrowed (fieldOf bounds numbers f) (In (2 ^ count - 1)) v (In s) → Nearest (Cut r qs) v next
       → Filling bounds numbers count row f before (set sets (mostCuts * f + n) s) (n + 1) next
   unfolding setAt

@@ -15,12 +15,13 @@ use Rattle.base.proofs.Laws.Lists.{length-tabulate, getD-tabulate}
 use Rattle.base.proofs.Laws.Members.{member-at, at-member}
 use Rattle.policy.specs.Model.{Range, noRange}
 use Rattle.relations.specs.Ranges.{Within}
+use Rattle.covers.specs.Views.{NextValue, comes, end}
 use Rattle.mesh.specs.Promises.{Cut}
-use Rattle.mesh.specs.Views.{NextCut, cut, end, nearerOf, withCut, Nearest}
+use Rattle.mesh.specs.Views.{nearerOf, withCut, Nearest}
 
 -- ---- one candidate more
 
-module _ (r : Range) (v x : ℕ) (n : NextCut) where
+module _ (r : Range) (v x : ℕ) (n : NextValue) where
   -- One that is not past v, or past the end of the range, is none.
   pub cut-passed : x ≤ v → withCut r v x n ≡ n
   cut-passed h = rw (le-ltb v x h)
@@ -35,8 +36,8 @@ module _ (r : Range) (v x : ℕ) (n : NextCut) where
 -- D is C, and x if it is in the range.
 module _ (r : Range) (v x : ℕ) (C D : ℕ → Type 0) (old : (y : ℕ) → C y → D y) (new : (y : ℕ) → D y → C y ⊎ (y ≡ x))
     (own : v < x → x ≤ r .high → D x) (inside : (y : ℕ) → D y → y ≤ r .high) where
-  nearer-taken : v < x → x ≤ r .high → (n : NextCut) → Nearest C v n → Nearest D v (nearerOf x n)
-  nearer-taken l h (cut w) m = (
+  nearer-taken : v < x → x ≤ r .high → (n : NextValue) → Nearest C v n → Nearest D v (nearerOf x n)
+  nearer-taken l h (comes w) m = (
     elim (decLt x w) [
       | yes k ↦ let e : min w x ≡ x = omega arith in subst D (sym e) (own l h)
       | no k ↦ let e : min w x ≡ w = omega arith in subst D (sym e) (old w (m .0))
@@ -47,15 +48,15 @@ module _ (r : Range) (v x : ℕ) (C D : ℕ → Type 0) (old : (y : ℕ) → C y
   nearer-taken l h end m = (own l h, l, λ y d b. elim (new y d) [ inl c ↦ absurd (m y c b) | inr e ↦ omega arith ])
 
   -- Where x is none, the next one is as it was.
-  nearer-left : (v < x → x ≤ r .high → ⊥) → (n : NextCut) → Nearest C v n → Nearest D v n
-  nearer-left z (cut w) m = (
+  nearer-left : (v < x → x ≤ r .high → ⊥) → (n : NextValue) → Nearest C v n → Nearest D v n
+  nearer-left z (comes w) m = (
     old w (m .0),
     m .1,
     λ y d b. elim (new y d) [ inl c ↦ m .2 y c b | inr e ↦ let i = inside y d in absurd (z (omega arith) (omega arith)) ],
   )
   nearer-left z end m = λ y d b. elim (new y d) [ inl c ↦ m y c b | inr e ↦ let i = inside y d in z (omega arith) (omega arith) ]
 
-  pub nearest-with : (n : NextCut) → Nearest C v n → Nearest D v (withCut r v x n)
+  pub nearest-with : (n : NextValue) → Nearest C v n → Nearest D v (withCut r v x n)
   nearest-with n m = elim (decLt v x) [
     | yes l ↦ elim (decLt (r .high) x) [
       | yes h ↦ subst (Nearest D v) (sym (cut-outside r v x n h)) (nearer-left (λ a b. omega arith) n m)
@@ -85,7 +86,7 @@ module _ (r : Range) (field : ℕ → Range) (v : ℕ) (w : Within r v) where
   abbrev Lower : ℕ → ℕ → Type 0
   Lower k x = By k x ⊎ (Within r x × (v < x) × (x ≡ field k .low))
 
-  pub nearest-box : (k : ℕ) (n : NextCut) → Nearest (By k) v n → Nearest (By (k + 1)) v (withCut r v (field k .high + 1) (withCut r v (field k .low) n))
+  pub nearest-box : (k : ℕ) (n : NextValue) → Nearest (By k) v n → Nearest (By (k + 1)) v (withCut r v (field k .high + 1) (withCut r v (field k .low) n))
   nearest-box k n m =
       nearest-with r v (field k .high + 1) (Lower k) (By (k + 1)) to of (λ l h. (past (field k .high + 1) l h, l, (k, omega arith, inr refl)))
       (λ y d. d .0 .high) (withCut r v (field k .low) n)
@@ -135,6 +136,6 @@ module _ (r : Range) (field : ℕ → Range) (v : ℕ) (w : Within r v) where
       (getD-tabulate field count (j .0) noRange l) (at-member noRange (tabulate field count) (j .0) (omega (arith, length-tabulate field count))) in
       record { inside = b .0; at = inr (field (j .0), m, j .2) }
 
-  pub nearest-cut : (count : ℕ) (n : NextCut) → Nearest (By count) v n → Nearest (Cut r (tabulate field count)) v n
-  nearest-cut count (cut w) m = (to-cut count w (m .0), m .1, λ x c l. m .2 x (of-cut count x l c) l)
+  pub nearest-cut : (count : ℕ) (n : NextValue) → Nearest (By count) v n → Nearest (Cut r (tabulate field count)) v n
+  nearest-cut count (comes w) m = (to-cut count w (m .0), m .1, λ x c l. m .2 x (of-cut count x l c) l)
   nearest-cut count end m = λ x c l. m x (of-cut count x l c) l

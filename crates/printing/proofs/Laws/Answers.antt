@@ -11,7 +11,7 @@ use Rattle.base.specs.Answers.{returned, refusedBy}
 use Rattle.base.proofs.Laws.Outputs.{written-all}
 use Rattle.policy.specs.Model.{Table}
 use Rattle.frames.specs.Refusals.{shortOutput}
-use Rattle.reader.specs.States.{parse}
+use Rattle.reader.specs.States.{tableRead, parse}
 use Rattle.reader.proofs.Laws.Wellformed.{accepted-wellformed, refused-line}
 use Rattle.kinds.specs.Entries.{entries, mostEntries}
 use Rattle.kinds.proofs.Laws.Few.{entries-few}
@@ -29,52 +29,52 @@ use Rattle.printing.proofs.Laws.Printed.{prints-not, prints-all, prints
 
 -- ---- what List answers with room for all entries
 
-module _ (input out after : List ℕ) (r : Counted) (long : length out ≡ entryBytes * mostEntries) (a : countAnswer r ≡ listOf input out) where
-  pub rowlist-counted : (n : ℕ) → r ≡ Count n → after ≡ listWritten input out → hexLines (take (entryBytes * n) after) ≡ listPrinted (parse input)
+module _ (input out after : List ℕ) (r : Counted) (long : length out ≡ entryBytes * mostEntries) (a : countAnswer r ≡ listOf (parse input) out) where
+  pub rowlist-counted : (n : ℕ) → r ≡ Count n → after ≡ listWritten (parse input) out → hexLines (take (entryBytes * n) after) ≡ listPrinted (parse input)
   unfolding listPrinted
   rowlist-counted n e o =
-      let w = list-told input out n (sym a ∙ ap countAnswer e) in
-      let es = entries (w .of) in
+      let w = list-told (parse input) out n (sym a ∙ ap countAnswer e) in
+      let es = entries (w .of .table) in
       let b = length-bytes es in
       let m = w .tells in
-      ap (λ (l : List ℕ). hexLines (take (entryBytes * n) l)) (o ∙ list-wrote input out w)
+      ap (λ (l : List ℕ). hexLines (take (entryBytes * n) l)) (o ∙ list-wrote (parse input) out w)
       ∙ ap hexLines (take-at (bytes es) (drop (length (bytes es)) out) (entryBytes * n) (omega arith))
       ∙ lines-bytes es
       ∙ sym (ap listPrinted (w .read))
 
   pub rowlist-refused : (number line : ℕ) → r ≡ Refused number line → refusalLine number line ≡ listPrinted (parse input)
   unfolding listPrinted
-  rowlist-refused number line e = elim (list-refused input out number line (sym a ∙ ap countAnswer e)) [
+  rowlist-refused number line e = elim (list-refused (parse input) out number line (sym a ∙ ap countAnswer e)) [
     | inl p ↦ sym (ap listPrinted p)
-    | inr w ↦ let few = entries-few (w .0) (accepted-wellformed input (w .0) (w .1)) in
-        let b = length-bytes (entries (w .0)) in
-        absurd (omega (arith, no-room (bytes (entries (w .0))) out number (w .2)))
+    | inr w ↦ let few = entries-few (w .0 .table) (accepted-wellformed input (w .0 .table) (w .1)) in
+        let b = length-bytes (entries (w .0 .table)) in
+        absurd (omega (arith, no-room (bytes (entries (w .0 .table))) out number (w .2)))
   ]
 
 -- ---- what Strike answers
 
-module _ (input out after : List ℕ) (r : Counted) (a : countAnswer r ≡ strikeOf input out) (o : after ≡ strikeWritten input out) where
+module _ (input out after : List ℕ) (r : Counted) (a : countAnswer r ≡ strikeOf input (parse input) out) (o : after ≡ strikeWritten input (parse input) out) where
   pub strike-whole : (n : ℕ) → r ≡ Count n → Prints (struckPrinted input (parse input)) out after n
   unfolding struckPrinted
   strike-whole n e =
-      let w = strike-told input out n (sym a ∙ ap countAnswer e) in
-      let result = struckText input (w .of) in
+      let w = strike-told input (parse input) out n (sym a ∙ ap countAnswer e) in
+      let result = struckText input (w .of .table) in
       let l = room result out (w .keeps) in
       prints-other (sym (ap (struckPrinted input) (w .read)))
       (prints-all result out after n l
-      (o ∙ strike-wrote input out w ∙ written-all result out l)
+      (o ∙ strike-wrote input (parse input) out w ∙ written-all result out l)
       (w .tells))
 
   module _ (number line : ℕ) (e : r ≡ Refused number line) where
-    why : (parse input ≡ refusedBy number line) ⊎ ((t : Table) × (parse input ≡ returned t) × (number ≡ shortOutput) × (length out < length (struckText input t)))
-    why = elim (strike-refused input out number line (sym a ∙ ap countAnswer e)) [
+    why : (parse input ≡ refusedBy number line) ⊎ ((t : Table) × (parse input ≡ returned (tableRead t)) × (number ≡ shortOutput) × (length out < length (struckText input t)))
+    why = elim (strike-refused input (parse input) out number line (sym a ∙ ap countAnswer e)) [
       | inl p ↦ inl p
-      | inr w ↦ let n = no-room (struckText input (w .0)) out number (w .2) in inr (w .0, w .1, n .0, n .1)
+      | inr w ↦ let n = no-room (struckText input (w .0 .table)) out number (w .2) in inr (w .0 .table, w .1, n .0, n .1)
     ]
 
     -- A refusal writes nothing.
     unchanged : after ≡ out
-    unchanged = o ∙ strike-left input out number line (sym a ∙ ap countAnswer e)
+    unchanged = o ∙ strike-left input (parse input) out number line (sym a ∙ ap countAnswer e)
 
     -- A text's own refusals have smaller numbers.
     pub strike-short : number ≡ shortOutput → Prints (struckPrinted input (parse input)) out after 0

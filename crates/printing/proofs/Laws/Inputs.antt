@@ -8,7 +8,7 @@ use lib.Seq.{take-append-seam, drop-append-seam}
 use Rattle.base.specs.Answers.{returned, refusedBy}
 use Rattle.base.proofs.Laws.Outputs.{fits-all, written-all}
 use Rattle.policy.specs.Model.{Table}
-use Rattle.reader.specs.States.{parse}
+use Rattle.reader.specs.States.{tableRead, parse}
 use Rattle.kinds.specs.Entries.{Entry, entries}
 use Rattle.striking.specs.Texts.{struckText}
 use Rattle.printing.specs.Limits.{mostInput}
@@ -19,7 +19,7 @@ module _ (ofTable : Table → List ℕ) (input : List ℕ) (short : length input
   printed-refused : (number line : ℕ) → parse input ≡ refusedBy number line → printed (printedOf ofTable (parse input)) input ≡ refusalLine number line
   printed-refused number line e = printed-text (printedOf ofTable (parse input)) input short ∙ rw e
 
-  printed-accepted : (t : Table) → parse input ≡ returned t → printed (printedOf ofTable (parse input)) input ≡ ofTable t
+  printed-accepted : (t : Table) → parse input ≡ returned (tableRead t) → printed (printedOf ofTable (parse input)) input ≡ ofTable t
   printed-accepted t e = printed-text (printedOf ofTable (parse input)) input short ∙ rw e
 
 module _ (input : List ℕ) (short : length input ≤ mostInput) where
@@ -27,7 +27,7 @@ module _ (input : List ℕ) (short : length input ≤ mostInput) where
   unfolding rowlistPrints listPrinted
   rowlist-refused = printed-refused (λ t. entryLines (entries t)) input short
 
-  pub rowlist-accepted : (t : Table) → parse input ≡ returned t → rowlistPrints input ≡ entryLines (entries t)
+  pub rowlist-accepted : (t : Table) → parse input ≡ returned (tableRead t) → rowlistPrints input ≡ entryLines (entries t)
   unfolding rowlistPrints listPrinted
   rowlist-accepted = printed-accepted (λ t. entryLines (entries t)) input short
 
@@ -35,7 +35,7 @@ module _ (input : List ℕ) (short : length input ≤ mostInput) where
   unfolding strikePrints struckPrinted
   strike-refused = printed-refused (struckText input) input short
 
-  pub strike-accepted : (t : Table) → parse input ≡ returned t → strikePrints input ≡ struckText input t
+  pub strike-accepted : (t : Table) → parse input ≡ returned (tableRead t) → strikePrints input ≡ struckText input t
   unfolding strikePrints struckPrinted
   strike-accepted = printed-accepted (struckText input) input short
 

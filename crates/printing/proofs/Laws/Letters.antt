@@ -11,8 +11,7 @@ use Rattle.base.specs.Answers.{Answer, returned, refusedBy}
 use Rattle.base.proofs.Laws.Pairs.{pairwise-length}
 use Rattle.hex.specs.Letters.{SameLetter, SameButCase}
 use Rattle.hex.proofs.Laws.Letters.{case-itself}
-use Rattle.policy.specs.Model.{Table}
-use Rattle.reader.specs.States.{parse}
+use Rattle.reader.specs.States.{Parsed, parse}
 use Rattle.reader.proofs.Laws.Letters.{parse-case}
 use Rattle.striking.proofs.Laws.Letters.{struck-case}
 use Rattle.printing.specs.Limits.{mostInput}
@@ -27,7 +26,7 @@ module _ (a b : List ℕ) (h : SameButCase a b) where
   unfolding strikePrints struckPrinted
   strike-case = rw (parse-case a b h, pairwise-length SameLetter a b h) (go (leb (length b) mostInput) (parse b))
     where
-      go : (fits : Bool) (x : Answer Table) → SameButCase (pick fits (struckPrinted a x) tooLong) (pick fits (struckPrinted b x) tooLong)
-      go true (returned t) = struck-case a b h t
+      go : (fits : Bool) (x : Answer Parsed) → SameButCase (pick fits (struckPrinted a x) tooLong) (pick fits (struckPrinted b x) tooLong)
+      go true (returned r) = struck-case a b h (r .table)
       go true (refusedBy number line) = case-itself (refusalLine number line)
       go false x = case-itself tooLong

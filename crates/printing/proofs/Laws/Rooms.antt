@@ -8,7 +8,7 @@ use native.Mathlib.Omega.{arith}
 use lib.ListN.{length}
 use Rattle.policy.specs.Model.{Table}
 use Rattle.base.specs.Answers.{Answer, returned, refusedBy}
-use Rattle.reader.specs.States.{parse}
+use Rattle.reader.specs.States.{Parsed, tableRead, parse}
 use Rattle.reader.proofs.Laws.Wellformed.{accepted-wellformed}
 use Rattle.kinds.specs.Entries.{entries}
 use Rattle.kinds.proofs.Laws.Few.{entries-few}
@@ -20,7 +20,7 @@ use Rattle.printing.proofs.Laws.Printed.{printed-long, printed-text}
 
 -- A refusal's line has six bytes.
 printed-room : (ofTable : Table → List ℕ) (input : List ℕ) (n : ℕ) → 6 ≤ n
-    → ((t : Table) → parse input ≡ returned t → length input ≤ mostInput → length (ofTable t) ≤ n)
+    → ((t : Table) → parse input ≡ returned (tableRead t) → length input ≤ mostInput → length (ofTable t) ≤ n)
     → length (printed (printedOf ofTable (parse input)) input) ≤ n
 printed-room ofTable input n six room =
     elim (decLt mostInput (length input)) [
@@ -28,8 +28,8 @@ printed-room ofTable input n six room =
       | no l ↦ rw (printed-text (printedOf ofTable (parse input)) input (omega arith)) (go (parse input) refl (omega arith))
     ]
   where
-    go : (p : Answer Table) → parse input ≡ p → length input ≤ mostInput → length (printedOf ofTable p) ≤ n
-    go (returned t) e l = room t e l
+    go : (p : Answer Parsed) → parse input ≡ p → length input ≤ mostInput → length (printedOf ofTable p) ≤ n
+    go (returned r) e l = room (r .table) e l
     go (refusedBy number line) e l = six
 
 pub rowlist-room : (input : List ℕ) → length (rowlistPrints input) ≤ mostPrinted

@@ -14,7 +14,7 @@ use Rattle.relations.specs.declared.group.Probe.{Probe}
 use Rattle.relations.specs.Groups.{SameGroup, winnerFrom}
 use Rattle.relations.proofs.Laws.Groups.{winner-group}
 use Rattle.relations.proofs.Laws.Extended.{row-extended}
-use Rattle.reader.specs.States.{parse}
+use Rattle.reader.specs.States.{tableRead, parse}
 use Rattle.reader.proofs.Laws.Wellformed.{accepted-wellformed}
 use Rattle.reader.proofs.Laws.Texts.{accepted-text-extended}
 use Rattle.verdicts.proofs.Laws.Extended.{old-rows-keep}
@@ -38,14 +38,14 @@ use Rattle.promises.proofs.Laws.MeshPromises.{same-answer}
 
 -- ---- the entries that List writes
 
-module _ (text : List ℕ) (t : Table) (e : parse text ≡ returned t) (out : List ℕ) (n : ℕ) (told : listOf text out ≡ returned n) where
+module _ (text : List ℕ) (t : Table) (e : parse text ≡ returned (tableRead t)) (out : List ℕ) (n : ℕ) (told : listOf (parse text) out ≡ returned n) where
   -- What List tells of the text is told of t.
-  list-tells : (n ≡ length (entries t)) × (listWritten text out ≡ bytes (entries t) ++ drop (length (bytes (entries t))) out)
+  list-tells : (n ≡ length (entries t)) × (listWritten (parse text) out ≡ bytes (entries t) ++ drop (length (bytes (entries t))) out)
   list-tells =
-      let w = list-told text out n told in
-      let same : w .of ≡ t = cc (w .read) in
-      subst (λ v. (n ≡ length (entries v)) × (listWritten text out ≡ bytes (entries v) ++ drop (length (bytes (entries v))) out)) same
-      (w .tells, list-wrote text out w)
+      let w = list-told (parse text) out n told in
+      let same : w .of ≡ tableRead t = cc (w .read) in
+      subst (λ v. (n ≡ length (entries (v .table))) × (listWritten (parse text) out ≡ bytes (entries (v .table)) ++ drop (length (bytes (entries (v .table)))) out)) same
+      (w .tells, list-wrote (parse text) out w)
 
   lists-exactly : (i kind j : ℕ) → Lists text out i kind j ↔ List·Memᴰ (entry i kind j) (entries t)
   lists-exactly i kind j =
@@ -62,7 +62,7 @@ module _ (text : List ℕ) (t : Table) (e : parse text ≡ returned t) (out : Li
 -- ---- rows added at the end
 
 -- Of a text and a longer one that gives its table with these rows more.
-module _ (text longer : List ℕ) (t : Table) (added : List Row) (e : parse text ≡ returned t) (f : parse longer ≡ returned (extended added t)) where
+module _ (text longer : List ℕ) (t : Table) (added : List Row) (e : parse text ≡ returned (tableRead t)) (f : parse longer ≡ returned (tableRead (extended added t))) where
   inside : (i : ℕ) → i < length (t .rows) → i < length (extended added t .rows)
   inside i h = omega (arith, length-append (t .rows) added)
 
@@ -77,16 +77,16 @@ module _ (text longer : List ℕ) (t : Table) (added : List Row) (e : parse text
       let same = anomalies-stand t added w v i kind j old stays in
       (λ l. b .1 (y .1 (same .0 (x .0 (a .0 l)))), λ l. a .1 (x .1 (same .1 (y .0 (b .0 l)))))
 
-  witness-kept : (i : ℕ) → i < length (t .rows) → witnessOf longer i ≡ witnessOf text i
+  witness-kept : (i : ℕ) → i < length (t .rows) → witnessOf (parse longer) i ≡ witnessOf (parse text) i
   witness-kept i h =
-      witness-verdict longer (extended added t) f i (inside i h)
+      witness-verdict (parse longer) (extended added t) f i (inside i h)
       ∙ ap returned (old-rows-keep t added .verdict i h)
-      ∙ sym (witness-verdict text t e i h)
+      ∙ sym (witness-verdict (parse text) t e i h)
 
-  mesh-kept : (i : ℕ) → i < length (t .rows) → meshOf longer i ≡ meshOf text i
+  mesh-kept : (i : ℕ) → i < length (t .rows) → meshOf (parse longer) i ≡ meshOf (parse text) i
   mesh-kept i h = same-answer longer i ∙ witness-kept i h ∙ sym (same-answer text i)
 
-  module _ (g : ℕ) (p : Probe) (i : ℕ) (won : WinnerAnswers text g p (RowCase i)) where
+  module _ (g : ℕ) (p : Probe) (i : ℕ) (won : WinnerAnswers (parse text) g p (RowCase i)) where
     abbrev a : ℕ
     a = p .source
 
@@ -97,24 +97,25 @@ module _ (text longer : List ℕ) (t : Table) (added : List Row) (e : parse text
     q = packetOf (p .packet)
 
     named-before : (g < length (t .rows)) × IsEntity t a × IsEntity t b
-    named-before = winner-told text t e g a b q (winningRow i) (sym won)
+    named-before = winner-told (parse text) t e g a b q (winningRow i) (sym won)
 
-    winner-kept : WinnerAnswers longer g p (RowCase i)
+    winner-kept : WinnerAnswers (parse longer) g p (RowCase i)
     winner-kept =
         let x = named-before in
-        let old = winner-row text t e g a b q (x .0) (x .1) (x .2) i .0 (sym won) in
+        let old = winner-row (parse text) t e g a b q (x .0) (x .1) (x .2) i .0 (sym won) in
         sym
-        (winner-row longer (extended added t) f g a b q (inside g (x .0)) (x .1) (x .2) i .1
+        (winner-row (parse longer) (extended added t) f g a b q (inside g (x .0)) (x .1) (x .2) i .1
         (winner-group (extended added t) g a b q
         ∙ ap (λ r. winnerFrom (parentOf t) r a b q 0 (t .rows ++ added)) (row-extended t added g (x .0))
         ∙ old-rows-keep t added .winner (rowAt t g) a b q i (sym (winner-group t g a b q) ∙ old)))
 
     winner-named-newly : (h : ℕ) → h < length (extended added t .rows) → SameGroup (rowAt (extended added t) h) (rowAt t g)
-        → WinnerAnswers longer h p (RowCase i)
+        → WinnerAnswers (parse longer) h p (RowCase i)
     winner-named-newly h l s =
-        winner-promise longer (extended added t) f .named h g p l (inside g (named-before .0))
+        subst⁻¹ (λ x. WinnerAnswers x h p (RowCase i)) f
+        (winner-promise (tableRead (extended added t)) .named h g p l (inside g (named-before .0))
         (subst (SameGroup (rowAt (extended added t) h)) (sym (row-extended t added g (named-before .0))) s) (RowCase i) .1
-        winner-kept
+        (subst (λ x. WinnerAnswers x g p (RowCase i)) f winner-kept))
 
 -- Kind 20 is none that may change.
 dead-stays : MayChange 20 → ⊥
@@ -125,7 +126,7 @@ dead-stays (inr (inr e)) = omega arith
 pub added-rows : AddedRows
 added-rows text more added t u e run f =
     let table = accepted-text-extended text t e more added u run f in
-    let g : parse (text ++ more) ≡ returned (extended added t) = f ∙ ap returned table in
+    let g : parse (text ++ more) ≡ returned (tableRead (extended added t)) = f ∙ ap (λ v. returned (tableRead v)) table in
     subst⁻¹ (AnswersStand text more added t) table
     (record {
       table = refl;

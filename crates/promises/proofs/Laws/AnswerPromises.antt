@@ -7,11 +7,10 @@ use mathlib.Core.List.{List}
 use lib.ListN.{length}
 use borrow.Author.Tests.{le-ltb}
 use Rattle.base.specs.Answers.{Answer, returned, refusedBy}
-use Rattle.policy.specs.Model.{Table}
+use Rattle.policy.specs.Wellformed.{Wellformed}
 use Rattle.policy.specs.Views.{packetOf}
 use Rattle.relations.proofs.Laws.Tables.{table-tree}
-use Rattle.reader.specs.States.{parse}
-use Rattle.reader.proofs.Laws.Wellformed.{accepted-wellformed, refused-line}
+use Rattle.reader.specs.States.{Parsed}
 use Rattle.kinds.specs.Entries.{entries}
 use Rattle.covers.specs.Least.{SearchResult}
 use Rattle.listing.specs.Bytes.{bytes}
@@ -27,7 +26,7 @@ use Rattle.analyser.specs.Contracts.{Only, SameAnswers}
 use Rattle.analyser.specs.declared.Checked.the-variants.{Counts, Refused as CheckRefused}
 use Rattle.analyser.specs.declared.Winner.the-variants.{Refused as WinnerRefused}
 use Rattle.analyser.specs.declared.Counted.the-variants.{Count, Refused as CountRefused}
-use Rattle.analyser.proofs.Laws.Calls.{line-row, winner-no-row, winner-no-entity}
+use Rattle.analyser.proofs.Laws.Calls.{winner-no-row, winner-no-entity}
 use Rattle.analyser.proofs.Laws.Cases.{only, check-refused, check-counts, winner-refused, count-refused, count-told}
 use Rattle.analyser.proofs.Laws.Outputs.{call-short}
 use Rattle.promises.specs.AnswerPromises.{RefusedText, AcceptedText, PacketFields}
@@ -56,44 +55,42 @@ same-answers view e r = (λ a. a ∙ e, λ a. a ∙ sym e)
 
 -- ---- refused and accepted texts
 
-pub refused-text : (text : List ℕ) (number line : ℕ) → parse text ≡ refusedBy number line → RefusedText text number line
+pub refused-text : (number at : ℕ) → RefusedText number at
 unfolding checkOf linePart witnessOf meshOf winnerOf listOf listWritten strikeOf strikeWritten joinOf joinWritten prefixesOf prefixesWritten
-refused-text text number line e =
-    let small = refused-line text number line e in
+refused-text number at =
     record {
-      every = λ conditions value. rw e;
-      check = only checkAnswer (CheckRefused number line) (rw e) refl (check-refused number line);
-      line = λ k. rw e;
-      witness = λ k. refused-witness (rw e);
-      mesh = λ k. refused-witness (rw e);
-      winner = λ k p. refused-winner (rw e);
-      list = λ out. refused-count (rw e (refl, refl));
-      strike = λ out. refused-count (rw e (refl, refl));
-      join = λ i j out. refused-count (rw e (refl, refl));
-      prefixes = λ k side out. refused-count (rw e (refl, refl));
-      numbers = (small .1 .0, small .1 .1, small .0);
+      every = λ conditions value. refl;
+      check = only checkAnswer (CheckRefused number at) refl refl (check-refused number at);
+      line = λ text k. refl;
+      witness = λ k. refused-witness refl;
+      mesh = λ k. refused-witness refl;
+      winner = λ k p. refused-winner refl;
+      list = λ out. refused-count (refl, refl);
+      strike = λ text out. refused-count (refl, refl);
+      join = λ i j out. refused-count (refl, refl);
+      prefixes = λ k side out. refused-count (refl, refl);
     }
 
-pub accepted-text : (text : List ℕ) (t : Table) → parse text ≡ returned t → AcceptedText text t
+pub accepted-text : (r : Parsed) → Wellformed (r .table) → AcceptedText r
 unfolding checkOf linePart witnessOf meshOf listOf listWritten strikeOf strikeWritten
-accepted-text text t e =
+accepted-text r well =
+    let t = r .table in
     let n = length (t .entities) in
     let m = length (t .filters) in
     let k = length (t .rows) in
     record {
-      check = only checkAnswer (Counts n m k) {y = checkAnswer (Counts n m k)} (rw e) refl (check-counts n m k);
-      parents = table-tree t (accepted-wellformed text t e);
-      line = λ k h. line-row text t e k h .frame;
+      check = only checkAnswer (Counts n m k) {y = checkAnswer (Counts n m k)} refl refl (check-counts n m k);
+      parents = table-tree t well;
       no-row = λ k h. (
-        rw e (rw (le-ltb _ _ h)),
-        refused-witness (rw e (rw (le-ltb _ _ h))),
-        refused-witness (rw e (rw (le-ltb _ _ h))),
-        λ p. refused-winner (winner-no-row text t e k (p .source) (p .destination) (packetOf (p .packet)) h),
+        λ text. rw (le-ltb _ _ h),
+        refused-witness (rw (le-ltb _ _ h)),
+        refused-witness (rw (le-ltb _ _ h)),
+        λ p. refused-winner (winner-no-row (returned r) t refl k (p .source) (p .destination) (packetOf (p .packet)) h),
       );
-      no-entity = λ k p h n. refused-winner (winner-no-entity text t e k (p .source) (p .destination) (packetOf (p .packet)) h n);
+      no-entity = λ k p h n. refused-winner (winner-no-entity (returned r) t refl k (p .source) (p .destination) (packetOf (p .packet)) h n);
       short-list = λ out h.
-          refused-count (call-short noConditions bytes length entries out (parse text) t e tt (omega (arith, length-bytes (entries t))));
-      short-strike = λ out h. refused-count (call-short noConditions (λ l. l) length (struckText text) out (parse text) t e tt h);
+          refused-count (call-short noConditions bytes length entries out (returned r) t refl tt (omega (arith, length-bytes (entries t))));
+      short-strike = λ text out h. refused-count (call-short noConditions (λ l. l) length (struckText text) out (returned r) t refl tt h);
     }
 
 pub packet-fields : PacketFields

@@ -21,7 +21,7 @@ use Rattle.frames.specs.Rows.{allZero, rowNumbers, nullRule}
 use Rattle.reader.specs.Lines.{linesFrom, restFrom}
 use Rattle.reader.specs.Frames.{frameOfKind, frameOf}
 use Rattle.base.specs.Answers.{returned, refusedBy}
-use Rattle.reader.specs.States.{checks, grown, takeFrame, step, run, finish, parse}
+use Rattle.reader.specs.States.{tableRead, checks, grown, takeFrame, step, run, finish, parse}
 use Rattle.search.specs.Search.{tries, from, search}
 use Rattle.verdicts.specs.Verdicts.{verdictAfter}
 use Rattle.covers.specs.Covers.{covers, coverOf}
@@ -35,7 +35,7 @@ use Rattle.analyser.proofs.Laws.Outputs.{call-short, call-whole}
 
 -- ---- List in 18 and in 17 bytes
 
-T-parsed : parse T ≡ returned tableT
+T-parsed : parse T ≡ returned (tableRead tableT)
 unfolding rangeFrom parse finish run step takeFrame checks grown frameOf frameOfKind linesFrom restFrom refusal entityRule isEntity isRoot allRoots allZero rowNumbers nullRule among inhabited isLine digitValue digitOf
 T-parsed = refl
 
@@ -44,7 +44,7 @@ T-bytes : bytes (entries tableT) ≡ listOfT
 unfolding bytes
 T-bytes = ap bytes printed
 
-fits-18 : (out : List ℕ) → length out ≡ 18 → (listOf T out ≡ returned 6) × (listWritten T out ≡ listOfT)
+fits-18 : (out : List ℕ) → length out ≡ 18 → (listOf (parse T) out ≡ returned 6) × (listWritten (parse T) out ≡ listOfT)
 unfolding listOf listWritten
 fits-18 out h =
     let e = ap length T-bytes in
@@ -55,7 +55,7 @@ fits-18 out h =
           ∙ ap (λ (r : List ℕ). listOfT ++ r) (drop-of-length-le out {i = 18} (omega arith)),
     )
 
-short-17 : (out : List ℕ) → length out ≡ 17 → (listOf T out ≡ refusedBy 8 0) × (listWritten T out ≡ out)
+short-17 : (out : List ℕ) → length out ≡ 17 → (listOf (parse T) out ≡ refusedBy 8 0) × (listWritten (parse T) out ≡ out)
 unfolding listOf listWritten
 short-17 out h = let e = ap length T-bytes in call-short noConditions bytes length entries out (parse T) tableT T-parsed tt (omega arith)
 

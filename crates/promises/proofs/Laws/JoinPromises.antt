@@ -20,7 +20,7 @@ use Rattle.joining.specs.Joining.{Joinable}
 use Rattle.joining.proofs.Laws.Joining.{joinable-decides, joinable-swap, joined-least, joined-swap, joined-itself, joined-kept}
 use Rattle.frames.specs.Kinds.{ofRow, describe}
 use Rattle.frames.specs.Rows.{lineOfRow}
-use Rattle.reader.specs.States.{parse}
+use Rattle.reader.specs.States.{Parsed, tableRead, parse}
 use Rattle.reader.proofs.Laws.Wellformed.{accepted-wellformed}
 use Rattle.reader.proofs.Laws.Rows.{RowLine}
 use Rattle.reader.proofs.Laws.Texts.{accepted-text-more-rows}
@@ -37,7 +37,7 @@ use Rattle.analyser.proofs.Laws.Joins.{Does, join-refused, join-no-row, join-di
 pub upper-bounds : UpperBounds
 upper-bounds = record { lowest = λ up tree e f. lowest-least up tree f e; coefficients = larger-least; box = hull-least }
 
-module _ (text : List ℕ) (t : Table) (e : parse text ≡ returned t) where
+module _ (text : List ℕ) (t : Table) (e : parse text ≡ returned (tableRead t)) where
   well : Wellformed t
   well = accepted-wellformed text t e
 
@@ -59,9 +59,9 @@ module _ (text : List ℕ) (t : Table) (e : parse text ≡ returned t) where
         let line : RowLine t (joinedLine i j t) (joinedRow i j t) = row-written t well (joinedRow i j t) rule in
         record {
           written = λ out l.
-              told-count (call-whole (joinConditions i j) (λ l. l) length (joinedLine i j) out (parse text) t e (join-kept text t e i j out h k c) l);
+              told-count (call-whole (joinConditions i j) (λ l. l) length (joinedLine i j) out (parse text) t e (join-kept (parse text) t e i j out h k c) l);
           short = λ out l.
-              refused-count (call-short (joinConditions i j) (λ l. l) length (joinedLine i j) out (parse text) t e (join-kept text t e i j out h k c) l);
+              refused-count (call-short (joinConditions i j) (λ l. l) length (joinedLine i j) out (parse text) t e (join-kept (parse text) t e i j out h k c) l);
           line = line .line;
           says = line .frame;
           capitals = row-capitals t well (joinedRow i j t) rule;
@@ -82,11 +82,11 @@ module _ (text : List ℕ) (t : Table) (e : parse text ≡ returned t) where
   row-itself : (i : ℕ) → Joinable (parentOf t) (rowAt t i) (rowAt t i)
   row-itself i = record { group = group-self (rowAt t i); source = refl; destination = refl }
 
-  own-line : (i : ℕ) → i < length (t .rows) → InCapitals (linePart text i) → joinedLine i i t ≡ linePart text i
+  own-line : (i : ℕ) → i < length (t .rows) → InCapitals (linePart text (parse text) i) → joinedLine i i t ≡ linePart text (parse text) i
   own-line i h c =
       let line = line-row text t e i h in
       ap (lineOfRow (describe ofRow .byte) widths) (joined-itself (parentOf t) tree (rowAt t i))
-      ∙ row-own (linePart text i) (rowAt t i) (line .line) (line .frame) c
+      ∙ row-own (linePart text (parse text) i) (rowAt t i) (line .line) (line .frame) c
 
   -- What can be joined, by devices.
   can-join : (i j : ℕ)
@@ -108,8 +108,8 @@ module _ (text : List ℕ) (t : Table) (e : parse text ≡ returned t) where
   pub join-promise : JoinPromise text t
   join-promise =
       record {
-        no-row = λ i j out n. refused-count (join-no-row text t e i j out n);
-        differ = λ i j out h k n. refused-count (join-differ text t e i j out h k n);
+        no-row = λ i j out n. refused-count (join-no-row (parse text) t e i j out n);
+        differ = λ i j out h k n. refused-count (join-differ (parse text) t e i j out h k n);
         joinable = can-join;
         rows = joined-rows;
         itself = λ i h. (row-itself i, joined-itself (parentOf t) tree (rowAt t i));
@@ -118,35 +118,35 @@ module _ (text : List ℕ) (t : Table) (e : parse text ≡ returned t) where
 
   -- Either way round.
   module _ (i j : ℕ) (out : List ℕ) where
-    both : {answer : Answer ℕ} {after : List ℕ} → Does text i j out answer after → Does text j i out answer after
-        → Does text i j out (joinOf text j i out) (joinWritten text j i out)
+    both : {answer : Answer ℕ} {after : List ℕ} → Does (parse text) i j out answer after → Does (parse text) j i out answer after
+        → Does (parse text) i j out (joinOf (parse text) j i out) (joinWritten (parse text) j i out)
     both a b = (a .0 ∙ sym (b .0), a .1 ∙ sym (b .1))
 
     -- What is answered of a line.
     abbrev asked : List ℕ → Answer (List ℕ)
     asked l = given (hasRoom l out ∷ []) l
 
-    join-swap : Does text i j out (joinOf text j i out) (joinWritten text j i out)
+    join-swap : Does (parse text) i j out (joinOf (parse text) j i out) (joinWritten (parse text) j i out)
     join-swap =
         elim (decided _ (decides-and _ _ (decides-ltb i (length (t .rows))) (decides-ltb j (length (t .rows))))) [
           | inl x ↦ elim (decided _ (joinable-decides (parentOf t) (rowAt t i) (rowAt t j))) [
-            | inl c ↦ let a = join-asked text t e i j out (x .0) (x .1) c in
-                let b = join-asked text t e j i out (x .1) (x .0) (joinable-swap (parentOf t) (rowAt t i) (rowAt t j) c) in
+            | inl c ↦ let a = join-asked (parse text) t e i j out (x .0) (x .1) c in
+                let b = join-asked (parse text) t e j i out (x .1) (x .0) (joinable-swap (parentOf t) (rowAt t i) (rowAt t j) c) in
                 let line : joinedLine i j t ≡ joinedLine j i t =
                 ap (lineOfRow (describe ofRow .byte) widths) (joined-swap (parentOf t) tree (rowAt t i) (rowAt t j) c) in
                 (a .0 ∙ ap (λ l. told length (asked l)) line ∙ sym (b .0), a .1 ∙ ap (λ l. wrote (λ m. m) (asked l) out) line ∙ sym (b .1))
-            | inr n ↦ both (join-differ text t e i j out (x .0) (x .1) n)
-                (join-differ text t e j i out (x .1) (x .0) (λ c. n (joinable-swap (parentOf t) (rowAt t j) (rowAt t i) c)))
+            | inr n ↦ both (join-differ (parse text) t e i j out (x .0) (x .1) n)
+                (join-differ (parse text) t e j i out (x .1) (x .0) (λ c. n (joinable-swap (parentOf t) (rowAt t j) (rowAt t i) c)))
           ]
-          | inr n ↦ both (join-no-row text t e i j out n) (join-no-row text t e j i out (λ x. n (x .1, x .0)))
+          | inr n ↦ both (join-no-row (parse text) t e i j out n) (join-no-row (parse text) t e j i out (λ x. n (x .1, x .0)))
         ]
 
 pub commutes : (text : List ℕ) (i j : ℕ) (out : List ℕ) → Commutes text i j out
 commutes text i j out = let c = go (parse text) refl in (same-answers countAnswer (c .0), c .1)
   where
-    go : (x : Answer Table) → parse text ≡ x → Does text i j out (joinOf text j i out) (joinWritten text j i out)
-    go (returned t) e = join-swap text t e i j out
+    go : (x : Answer Parsed) → parse text ≡ x → Does (parse text) i j out (joinOf (parse text) j i out) (joinWritten (parse text) j i out)
+    go (returned r) e = join-swap text (r .table) e i j out
     go (refusedBy number line) e =
-        let a = join-refused text i j out number line e in
-        let b = join-refused text j i out number line e in
+        let a = join-refused (parse text) i j out number line e in
+        let b = join-refused (parse text) j i out number line e in
         (a .0 ∙ sym (b .0), a .1 ∙ sym (b .1))

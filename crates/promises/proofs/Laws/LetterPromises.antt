@@ -8,22 +8,19 @@ use Rattle.base.specs.Answers.{returned}
 use Rattle.hex.specs.Letters.{SameButCase, capital-first, small-first}
 use Rattle.hex.proofs.Laws.Letters.{letter-itself}
 use Rattle.policy.specs.Model.{Table}
-use Rattle.reader.specs.States.{parse}
+use Rattle.reader.specs.States.{tableRead, parse}
 use Rattle.reader.proofs.Laws.Letters.{parse-case}
 use Rattle.striking.proofs.Laws.Texts.{struck-written}
 use Rattle.striking.proofs.Laws.Letters.{struck-case}
-use Rattle.calls.specs.Views.{witnessAnswer}
-use Rattle.mesh_call.specs.Calls.{meshOf}
-use Rattle.analyser.specs.Calls.{checkOf, witnessOf, winnerOf, listOf, listWritten, joinOf, joinWritten, prefixesOf, prefixesWritten}
-use Rattle.analyser.specs.Views.{checkAnswer, winnerAnswer, countAnswer}
-use Rattle.analyser.proofs.Laws.Calls.{line-written}
+use Rattle.analyser.specs.Views.{countAnswer}
+use Rattle.analyser.proofs.Laws.Calls.{line-written, line-row}
 use Rattle.analyser.proofs.Laws.Letters.{line-case, strike-case}
 use Rattle.printing.proofs.Laws.Letters.{rowlist-case, strike-case as strike-prints-case}
 use Rattle.promises.specs.LetterPromises.{AsWritten, CaseLetters, CasePromise}
 use Rattle.promises.proofs.Laws.AnswerPromises.{same-answers}
 
-pub as-written : (text : List ℕ) (t : Table) → parse text ≡ returned t → AsWritten text t
-as-written text t e = record { line = line-written text t e; struck-lines = struck-written text t e }
+pub as-written : (text : List ℕ) (t : Table) → parse text ≡ returned (tableRead t) → AsWritten text t
+as-written text t e = record { line = line-written text t e; says = λ k h. line-row text t e k h .frame; struck-lines = struck-written text t e }
 
 pub case-letters : CaseLetters
 case-letters = record {
@@ -35,21 +32,12 @@ case-letters = record {
 }
 
 pub case-promise : (a b : List ℕ) → SameButCase a b → CasePromise a b
-unfolding checkOf witnessOf meshOf winnerOf listOf listWritten joinOf joinWritten prefixesOf prefixesWritten
 case-promise a b h =
-    let e = parse-case a b h in
     record {
-      read = e;
-      check = same-answers checkAnswer (rw e);
-      list = λ out. (same-answers countAnswer (rw e), rw e);
-      witness = λ k. same-answers witnessAnswer (rw e);
-      mesh = λ k. same-answers witnessAnswer (rw e);
-      winner = λ k p. same-answers winnerAnswer (rw e);
-      join = λ i j out. (same-answers countAnswer (rw e), rw e);
-      prefixes = λ k side out. (same-answers countAnswer (rw e), rw e);
+      read = parse-case a b h;
       line = line-case a b h;
       strike = λ out. let s = strike-case a b h out in (same-answers countAnswer (s .0), s .1);
-      struck-texts = λ t r. struck-case a b h t;
+      struck-texts = struck-case a b h;
       rowlist-prints = rowlist-case a b h;
       strike-prints = strike-prints-case a b h;
     }

@@ -2,14 +2,15 @@
 -- Assumes nothing.
 use Prim.Native.Nat.{ℕ, _<_}
 use native.Mathlib.Omega.{arith}
-use mathlib.Core.Path.{_≡_, sym, ap, _∙_}
+use mathlib.Core.Path.{_≡_, refl, sym, ap, _∙_}
 use mathlib.Core.Logic.{_↔_, inl, inr}
 use mathlib.Core.List.{List, _++_}
 use lib.ListN.{length, drop}
 use Rattle.base.specs.Answers.{returned}
 use Rattle.policy.specs.Model.{Table}
+use Rattle.policy.specs.Wellformed.{Wellformed}
 use Rattle.relations.specs.Groups.{Dead}
-use Rattle.reader.specs.States.{parse}
+use Rattle.reader.specs.States.{Parsed, parse}
 use Rattle.reader.proofs.Laws.Wellformed.{accepted-wellformed, refused-line}
 use Rattle.kinds.specs.Meanings.{InternalLoop, OutOfPlace, NonEnforceable, Inadequate, Shadowing, Redundancy, Exception, Correlation, Inclusion, Affinity, Contradiction, Superfluous, Skewed, Filtered, LayerTwo, Asymmetric, Cyclic, Monitorable, AlternativePath, FilterShadowing, FilterRedundancy}
 use Rattle.kinds.specs.Entries.{entry, entries}
@@ -69,14 +70,14 @@ module _ (t : Table) where
         ];
       }
 
-pub list-promise : (text : List ℕ) (t : Table) → parse text ≡ returned t → ListPromise text t
+pub list-promise : (r : Parsed) → Wellformed (r .table) → ListPromise r
 unfolding listOf listWritten
-list-promise text t e =
-    let well = accepted-wellformed text t e in
+list-promise r well =
+    let t = r .table in
     let long = length-bytes (entries t) in
     record {
       written = λ out h.
-          let w = call-whole noConditions bytes length entries out (parse text) t e tt (omega arith) in
+          let w = call-whole noConditions bytes length entries out (returned r) t refl tt (omega arith) in
           told-count (w .0, w .1 ∙ ap (λ (n : ℕ). bytes (entries t) ++ drop n out) long);
       three = (bytes-none, λ i kind j l. bytes-more (entry i kind j) l);
       exact = entries-exact t well;
@@ -89,11 +90,11 @@ list-promise text t e =
 
 pub packed-promise : (text out : List ℕ) → PackedPromise text out
 packed-promise text out = record {
-  count = λ n a. let w = list-told text out n (sym a) in
-      (ap packed (sym a), omega (arith, w .tells, entries-few (w .of) (accepted-wellformed text (w .of) (w .read))));
-  refusals = λ number line a. elim (list-refused text out number line (sym a)) [
+  count = λ n a. let w = list-told (parse text) out n (sym a) in
+      (ap packed (sym a), omega (arith, w .tells, entries-few (w .of .table) (accepted-wellformed text (w .of .table) (w .read))));
+  refusals = λ number line a. elim (list-refused (parse text) out number line (sym a)) [
     | inl h ↦ let small = refused-line text number line h in (ap packed (sym a), omega arith, omega arith, omega arith)
-    | inr h ↦ let short = no-room (bytes (entries (h .0))) out number (h .2) in
+    | inr h ↦ let short = no-room (bytes (entries (h .0 .table))) out number (h .2) in
         let none = h .3 in (ap packed (sym a), omega arith, omega arith, omega arith)
   ];
 }

@@ -6,16 +6,16 @@ use native.Mathlib.Omega.{arith}
 use mathlib.Core.Path.{_≡_, refl, sym, ap, _∙_}
 use mathlib.Core.Bool.{Bool, true, false}
 use mathlib.Core.Logic.{_↔_}
-use mathlib.Core.List.{List, [], _∷_}
+use mathlib.Core.List.{List}
 use borrow.Author.Tests.{ltb-true}
 use lib.Dec.{ltb}
 use lib.ListN.{length}
 use Rattle.base.specs.Truths.{pick}
-use Rattle.base.specs.Answers.{Answer, returned, refusedBy, callOn}
+use Rattle.base.specs.Answers.{Answer, returned, refusedBy}
 use Rattle.policy.specs.Model.{Selector, Packet, Table, rowAt}
 use Rattle.policy.specs.Wellformed.{Wellformed}
 use Rattle.policy.specs.Views.{packetOf}
-use Rattle.reader.specs.States.{parse}
+use Rattle.reader.specs.States.{Parsed, parse}
 use Rattle.reader.proofs.Laws.Wellformed.{accepted-wellformed}
 use Rattle.covers.specs.Least.{SearchResult, found, none, _≤ₚ_, Claimed}
 use Rattle.covers.specs.Covers.{coverOn}
@@ -27,7 +27,7 @@ use Rattle.mesh.specs.Verdicts.{meshOn}
 use Rattle.mesh.specs.Promises.{CutInEach, FirstUnclaimed}
 use Rattle.mesh.proofs.Laws.Cuts.{cuts-laws}
 use Rattle.mesh.proofs.Laws.Cells.{cells-laws}
-use Rattle.calls.specs.Rows.{hasRow, onRow}
+use Rattle.calls.specs.Rows.{onRow}
 use Rattle.calls.specs.Views.{witnessAnswer}
 use Rattle.mesh_call.specs.Calls.{meshOf}
 use Rattle.mesh_call.proofs.Laws.Calls.{mesh-verdict}
@@ -42,22 +42,19 @@ mesh-same t w i h =
     (cells-laws (rowAt t i .selector) (coverOn t i) (w .row i h .selector .ordered) (sized-cover t w i h) .right) (verdict-right t w i h)
 
 -- Two calls on a row that agree on each row of the text's table give one answer.
-row-alike : {A : Type 0} (u v : Table → ℕ → A) (text : List ℕ) (k : ℕ) → ((t : Table) → parse text ≡ returned t → k < length (t .rows) → u t k ≡ v t k)
-    → onRow u text k ≡ onRow v text k
-row-alike {A} u v text k h = go (parse text) h
+row-alike : {A : Type 0} (u v : Table → ℕ → A) (x : Answer Parsed) (k : ℕ) → ((r : Parsed) → x ≡ returned r → k < length (r .table .rows) → u (r .table) k ≡ v (r .table) k)
+    → onRow u x k ≡ onRow v x k
+row-alike u v (returned r) k f = there (ltb k (length (r .table .rows))) (λ b. f r refl (ltb-true k (length (r .table .rows)) b))
   where
-    there : (t : Table) (b : Bool) → (b ≡ true → u t k ≡ v t k) → pick b (returned (u t k)) (refusedBy 9 0) ≡ pick b (returned (v t k)) (refusedBy 9 0)
-    there t true f = ap returned (f refl)
-    there t false f = refl
+    there : (b : Bool) → (b ≡ true → u (r .table) k ≡ v (r .table) k)
+        → pick b (returned (u (r .table) k)) (refusedBy 9 0) ≡ pick b (returned (v (r .table) k)) (refusedBy 9 0)
+    there true f = ap returned (f refl)
+    there false f = refl
+row-alike u v (refusedBy number line) k f = refl
 
-    go : (x : Answer Table) → ((t : Table) → x ≡ returned t → k < length (t .rows) → u t k ≡ v t k)
-        → callOn (λ t. hasRow k t ∷ []) (λ t. u t k) x ≡ callOn (λ t. hasRow k t ∷ []) (λ t. v t k) x
-    go (returned t) f = there t (ltb k (length (t .rows))) (λ b. f t refl (ltb-true k (length (t .rows)) b))
-    go (refusedBy number line) f = refl
-
-pub same-answer : (text : List ℕ) (k : ℕ) → meshOf text k ≡ witnessOf text k
+pub same-answer : (text : List ℕ) (k : ℕ) → meshOf (parse text) k ≡ witnessOf (parse text) k
 unfolding meshOf witnessOf
-same-answer text k = row-alike meshOn verdictOn text k (λ t e h. mesh-same t (accepted-wellformed text t e) k h)
+same-answer text k = row-alike meshOn verdictOn (parse text) k (λ r e h. mesh-same (r .table) (accepted-wellformed text (r .table) e) k h)
 
 -- An answer that is the first of the examined packets in no box: what it is to be none, and to be a packet.
 module _ (s : Selector) (bs : List Selector) where
@@ -71,13 +68,14 @@ module _ (s : Selector) (bs : List Selector) where
   first-found (found q) f p =
       (λ e. let same : q ≡ p = cc in rw (sym same) f, λ h. ap found (antisym (f .2 p (h .0) (h .1)) (h .2 q (f .0) (f .1))))
 
-mesh-of-row : (text : List ℕ) (t : Table) (i : ℕ) → parse text ≡ returned t → i < length (t .rows) → MeshOfRow text t i
-mesh-of-row text t i e h =
+mesh-of-row : (text : List ℕ) (r : Parsed) (i : ℕ) → parse text ≡ returned r → i < length (r .table .rows) → MeshOfRow r i
+mesh-of-row text r i e h =
+    let t = r .table in
     let w = accepted-wellformed text t e in
     let first = cells-laws (rowAt t i .selector) (coverOn t i) (w .row i h .selector .ordered) (sized-cover t w i h) .first in
     let none-first = first-none (rowAt t i .selector) (coverOn t i) (meshOn t i) first in
     let found-first = first-found (rowAt t i .selector) (coverOn t i) (meshOn t i) first in
-    let v = mesh-verdict text t e i h in
+    let v = mesh-verdict (returned r) t refl i h in
     record {
       cover = cover-exact t i h;
       dead = (λ a. let q : meshOn t i ≡ none = cc in none-first .0 q, λ n. sym (v ∙ ap returned (none-first .1 n)));

@@ -15,7 +15,7 @@ use Rattle.prefixes.specs.Sides.{sideOf}
 use Rattle.prefixes.proofs.Laws.Order.{prefixes-few}
 use Rattle.prefixes.proofs.Laws.Puts.{length-prefixBytes}
 use Rattle.prefixes.proofs.Laws.Prefixes.{prefix-block, prefixes-of, full-range, one-address}
-use Rattle.reader.specs.States.{parse}
+use Rattle.reader.specs.States.{tableRead, parse}
 use Rattle.reader.proofs.Laws.Wellformed.{accepted-wellformed}
 use Rattle.analyser.specs.Calls.{rowPrefixes, prefixConditions, prefixesOf, prefixesWritten}
 use Rattle.promises.specs.PrefixPromises.{RangePrefixes, PrefixForms, SidePrefixes, PrefixPromise}
@@ -48,7 +48,7 @@ prefix-forms =
       };
     }
 
-module _ (text : List ℕ) (t : Table) (e : parse text ≡ returned t) where
+module _ (text : List ℕ) (t : Table) (e : parse text ≡ returned (tableRead t)) where
   side-prefixes : (k side : ℕ) → k < length (t .rows) → side ≤ 1 → SidePrefixes text t k side
   unfolding prefixesOf prefixesWritten
   side-prefixes k side h s =
@@ -61,18 +61,18 @@ module _ (text : List ℕ) (t : Table) (e : parse text ≡ returned t) where
         full = λ q. ap (prefixes 32) q ∙ full-range 32;
         single = λ a q. ap (prefixes 32) q ∙ one-address 32 a;
         written = λ out l.
-            let kept = prefixes-kept text t e k side out h s in
+            let kept = prefixes-kept (parse text) t e k side out h s in
             let w = call-whole (prefixConditions k side) (prefixBytes 4) length (rowPrefixes k side) out (parse text) t e kept (omega arith) in
             told-count (w .0, w .1 ∙ ap (λ (n : ℕ). prefixBytes 4 (rowPrefixes k side t) ++ drop n out) long);
         short = λ out l.
-            let kept = prefixes-kept text t e k side out h s in
+            let kept = prefixes-kept (parse text) t e k side out h s in
             refused-count (call-short (prefixConditions k side) (prefixBytes 4) length (rowPrefixes k side) out (parse text) t e kept (omega arith));
       }
 
   pub prefix-promise : PrefixPromise text t
   prefix-promise =
       record {
-        no-row = λ k side out h. refused-count (prefixes-no-row text t e k side out h);
-        no-side = λ k side out h n. refused-count (prefixes-no-side text t e k side out h n);
+        no-row = λ k side out h. refused-count (prefixes-no-row (parse text) t e k side out h);
+        no-side = λ k side out h n. refused-count (prefixes-no-side (parse text) t e k side out h n);
         sides = side-prefixes;
       }

@@ -14,6 +14,7 @@ use Rattle.frames.specs.Parts.{SaysBox}
 use Rattle.hex.proofs.Laws.Digits.{decimal-value, capital-value, small-value, bytesOf-pair, byteOf-digits, digits-capital}
 use Rattle.hex.proofs.Laws.Lines.{noLine-decides}
 use Rattle.hex.proofs.Laws.Numbers.{numberOf-append}
+use Rattle.reader.proofs.Laws.Wellformed.{refused-line}
 use Rattle.reader.proofs.Laws.Rules.{accepted-exactly, refused-otherwise}
 use Rattle.reader.proofs.Laws.Texts.{text-cut, lines-no-feed, rest-no-feed}
 use Rattle.reader.proofs.Laws.Forms.{frame-said}
@@ -171,5 +172,6 @@ reads =
       );
       filter-rule = λ t f r. (r .root, each-ordered (f .selector) (r .selector .ordered));
       first-fault = refused-exactly;
+      refusal-numbers = λ text number line e. let small = refused-line text number line e in (small .1 .0, small .1 .1, small .0);
       faultless = λ text t h. accepted-faultless text t (accepted-exactly text t .1 h);
     }

@@ -17,7 +17,7 @@ use Rattle.relations.specs.Groups.{SameGroup, Wins, Dead, winner}
 use Rattle.relations.specs.declared.group.Outcome.{Outcome}
 use Rattle.relations.specs.declared.group.Outcome.the-variants.{Won, Nobody}
 use Rattle.relations.proofs.Laws.Groups.{group-wins, wins-group, winner-wins, winner-nobody, winner-named}
-use Rattle.reader.specs.States.{parse}
+use Rattle.reader.specs.States.{Parsed, parse}
 use Rattle.reader.proofs.Laws.Wellformed.{accepted-wellformed}
 use Rattle.covers.specs.Least.{SearchResult, found, none, _≤ₚ_}
 use Rattle.verdicts.specs.Verdicts.{verdictOn}
@@ -44,30 +44,30 @@ use Rattle.analyser.proofs.Laws.Outputs.{call-whole}
 use Rattle.promises.specs.RowPromises.{WitnessPromise, StrikePromise, WinnerPromise}
 use Rattle.promises.proofs.Laws.AnswerPromises.{told-count}
 
-pub witness-promise : (text : List ℕ) (t : Table) → parse text ≡ returned t → WitnessPromise text t
-witness-promise text t e = record {
+pub witness-promise : (r : Parsed) → Wellformed (r .table) → WitnessPromise r
+witness-promise r well = record {
   listed = λ i h. let x = entries-exact t well i 20 255 in (λ m. x .0 m .1 .1, λ d. x .1 (h, (refl, d)));
-  witnessed = λ i r h a.
+  witnessed = λ i w h a.
       let v = verdicts t well i h .dead in
-      let w : witnessAnswer r ≡ returned (verdictOn t i) = a ∙ witness-verdict text t e i h in
-      (λ d. let said = ap witnessAnswer d in v .0 (cc), λ d. witness-dead r (w ∙ ap returned (v .1 d)));
-  others = λ i r h a n. other i r h a n (verdictOn t i) refl;
+      let said : witnessAnswer w ≡ returned (verdictOn t i) = a ∙ witness-verdict (returned r) t refl i h in
+      (λ d. let e = ap witnessAnswer d in v .0 (cc), λ d. witness-dead w (said ∙ ap returned (v .1 d)));
+  others = λ i w h a n. other i w h a n (verdictOn t i) refl;
 }
   where
-    well : Wellformed t
-    well = accepted-wellformed text t e
+    t : Table
+    t = r .table
 
-    other : (i : ℕ) (r : Witness) → i < length (t .rows) → WitnessAnswers text i r → (Dead t i → ⊥) → (o : SearchResult) → verdictOn t i ≡ o
+    other : (i : ℕ) (w : Witness) → i < length (t .rows) → WitnessAnswers (returned r) i w → (Dead t i → ⊥) → (o : SearchResult) → verdictOn t i ≡ o
         → (p : PacketStruct)
-        × (r ≡ PacketCase p)
+        × (w ≡ PacketCase p)
         × Wins t i (rowAt t i .source) (rowAt t i .destination) (packetOf p)
         × ((a b : ℕ) (q : Packet) → Wins t i a b q → packetOf p ≤ₚ q)
-    other i r h a n none o = absurd (n (verdicts t well i h .dead .0 o))
-    other i r h a n (found q) o =
+    other i w h a n none o = absurd (n (verdicts t well i h .dead .0 o))
+    other i w h a n (found q) o =
         let v = verdicts t well i h in
-        let w = witness-packet q r (a ∙ witness-verdict text t e i h ∙ ap returned o) in
-        let same : verdictOn t i ≡ found (packetOf (w .0)) = o ∙ ap found (sym (w .2)) in
-        (w .0, w .1, v .wins (packetOf (w .0)) same, v .least (packetOf (w .0)) same)
+        let s = witness-packet q w (a ∙ witness-verdict (returned r) t refl i h ∙ ap returned o) in
+        let same : verdictOn t i ≡ found (packetOf (s .0)) = o ∙ ap found (sym (s .2)) in
+        (s .0, s .1, v .wins (packetOf (s .0)) same, v .least (packetOf (s .0)) same)
 
 -- ---- striking
 
@@ -91,13 +91,14 @@ kept-once t j k h l e =
       | no m ↦ elim (decLt k j) [ yes n ↦ let a = kept-rows t .ascending k j n h in absurd (omega arith) | no n ↦ omega arith ]
     ]
 
-pub strike-promise : (text : List ℕ) (t : Table) → parse text ≡ returned t → StrikePromise text t
+pub strike-promise : (text : List ℕ) (r : Parsed) → parse text ≡ returned r → StrikePromise r text
 unfolding strikeOf strikeWritten
-strike-promise text t e =
+strike-promise text r e =
+    let t = r .table in
     let well = accepted-wellformed text t e in
     let keeps = struck-keeps t well in
     record {
-      written = λ out h. told-count (call-whole noConditions (λ l. l) length (struckText text) out (parse text) t e tt h);
+      written = λ out h. told-count (call-whole noConditions (λ l. l) length (struckText text) out (returned r) t refl tt h);
       shorter = struck-shorter text t e;
       taken = struck-parses text t e;
       alive = keeps .alive;
@@ -122,28 +123,31 @@ told-case : (r : Winner) (o : Outcome) → winnerAnswer r ≡ returned (outcomeO
 told-case r (Won i) a = inl (i, winner-a-row i r a)
 told-case r Nobody a = inr (winner-nobody-case r a)
 
-pub winner-promise : (text : List ℕ) (t : Table) → parse text ≡ returned t → WinnerPromise text t
-winner-promise text t e = record {
-  told = λ g p r h a. told-case r (winner t g (p .source) (p .destination) (packetOf (p .packet)))
-      (a ∙ winner-found text t e g (p .source) (p .destination) (packetOf (p .packet)) (h .0) (h .1) (h .2));
+pub winner-promise : (r : Parsed) → WinnerPromise r
+winner-promise r = record {
+  told = λ g p w h a. told-case w (winner t g (p .source) (p .destination) (packetOf (p .packet)))
+      (a ∙ winner-found (returned r) t refl g (p .source) (p .destination) (packetOf (p .packet)) (h .0) (h .1) (h .2));
   first = λ g p i h.
-      let s = winner-row text t e g (p .source) (p .destination) (packetOf (p .packet)) (h .0) (h .1) (h .2) i in
+      let s = winner-row (returned r) t refl g (p .source) (p .destination) (packetOf (p .packet)) (h .0) (h .1) (h .2) i in
       let v = winner-wins t g (p .source) (p .destination) (packetOf (p .packet)) i in
       (λ w. v .0 (s .0 (sym w)), λ o. sym (s .1 (v .1 o)));
   unmatched = λ g p h.
-      let s = winner-none text t e g (p .source) (p .destination) (packetOf (p .packet)) (h .0) (h .1) (h .2) in
+      let s = winner-none (returned r) t refl g (p .source) (p .destination) (packetOf (p .packet)) (h .0) (h .1) (h .2) in
       let v = winner-nobody t g (p .source) (p .destination) (packetOf (p .packet)) in
       (λ w. v .0 (s .0 (sym w)), λ o. sym (s .1 (v .1 o)));
-  named = λ g h p j k s r.
+  named = λ g h p j k s w.
       let same = named g h (p .source) (p .destination) (packetOf (p .packet)) j k s in
       (λ a. a ∙ same, λ a. a ∙ sym same);
 }
   where
+    t : Table
+    t = r .table
+
     named : (g h a b : ℕ) (p : Packet) → g < length (t .rows) → h < length (t .rows) → SameGroup (rowAt t g) (rowAt t h)
-        → winnerOf text g a b p ≡ winnerOf text h a b p
+        → winnerOf (returned r) g a b p ≡ winnerOf (returned r) h a b p
     named g h a b p j k s = elim (decided _ (decides-and _ _ (decides-ltb a (length (t .entities))) (decides-ltb b (length (t .entities))))) [
-      | inl x ↦ winner-found text t e g a b p j (x .0) (x .1)
+      | inl x ↦ winner-found (returned r) t refl g a b p j (x .0) (x .1)
           ∙ ap (λ o. returned (outcomeOf o)) (winner-named t g h a b p s)
-          ∙ sym (winner-found text t e h a b p k (x .0) (x .1))
-      | inr x ↦ winner-no-entity text t e g a b p j x ∙ sym (winner-no-entity text t e h a b p k x)
+          ∙ sym (winner-found (returned r) t refl h a b p k (x .0) (x .1))
+      | inr x ↦ winner-no-entity (returned r) t refl g a b p j x ∙ sym (winner-no-entity (returned r) t refl h a b p k x)
     ]

@@ -15,13 +15,12 @@ use lib.Dec.{eqb}
 use lib.ListN.{length, length-map}
 use Rattle.policy.proofs.Laws.Tables.{Sized, Counted, counted}
 use Rattle.base.specs.Truths.{pick}
-use Rattle.policy.specs.Model.{Table}
 use Rattle.policy.specs.Views.{tableOf, Stands}
 use Rattle.base.specs.Answers.{Answer, returned, refusedBy}
 use Rattle.frames.specs.Refusals.{noLine, outOfSequence}
 use Rattle.frames.specs.Numbers.{Lent}
 use Rattle.frames.specs.Progress.{Progress, linesRead}
-use Rattle.reader.specs.States.{State, reading, refused, run, finish}
+use Rattle.reader.specs.States.{Parsed, tableRead, State, reading, refused, run, finish}
 use Rattle.reader.specs.Views.{progressOf, stateOf, Ready, Reads, Parses}
 use Rattle.reader.specs.declared.Reader.{Reader}
 use Rattle.reader.proofs.Laws.States.{run-refused}
@@ -77,7 +76,7 @@ pub parsed-refused : {r : Reader} {k n : ℕ} → Reads r (refused k n) → Pars
 parsed-refused {r} {k} {n} h = record { same = go (eqb (r .number) 0) (h .same); ready = h .ready }
   where
     go : (b : Bool) → pick b (reading (linesRead (progressOf r)) (progressOf r)) (refused (r .number) (r .line)) ≡ refused k n
-        → pick b (returned (tableOf (r .table))) (refusedBy (r .number) (r .line)) ≡ refusedBy k n
+        → pick b (returned (tableRead (tableOf (r .table)))) (refusedBy (r .number) (r .line)) ≡ refusedBy k n
     go true q = let z : _≡_ {A = ℕ} 0 1 = cc in absurd (omega arith)
     go false q = let x : r .number ≡ k = cc in let y : r .line ≡ n = cc in cc
 
@@ -102,5 +101,5 @@ module _ (r : Reader) (rest : List ℕ) (z : r .number ≡ 0) where
   parses-whole e f ready =
       record { same = rw (eq-eqb (r .number) 0 z) (rw (eq-eqb (length rest) 0 e, eq-eqb (r .floored) 1 f)); ready = ready }
 
-pub parses-moved : {r : Reader} {x y : Answer Table} → Parses r x → x ≡ y → Parses r y
+pub parses-moved : {r : Reader} {x y : Answer Parsed} → Parses r x → x ≡ y → Parses r y
 parses-moved h e = record { same = h .same ∙ e; ready = h .ready }

@@ -23,7 +23,7 @@ use Rattle.frames.specs.Progress.{Progress, nothing}
 use Rattle.frames.specs.Kinds.{ofEntity, ofCap, ofFloor, ofFilter, ofRow}
 use Rattle.reader.specs.Lines.{linesOf, restOf}
 use Rattle.reader.specs.Frames.{Frame, aFrame, noFrame}
-use Rattle.reader.specs.States.{reading, refused, checks, grown, takeFrame, step, run, finish, parse}
+use Rattle.reader.specs.States.{Parsed, tableRead, reading, refused, checks, grown, takeFrame, step, run, finish, parse}
 use Rattle.reader.specs.Rules.{capFrames}
 use Rattle.reader.specs.Faults.{Fault, EndFault, feed-missing, floor-missing, FaultFrom, FaultAt, FirstFault}
 use Rattle.reader.proofs.Laws.Runs.{pick-either}
@@ -127,7 +127,7 @@ record First (before : List Frame) (lines : List (List ℕ)) (rest : List ℕ) (
   least : (n : ℕ) → FaultFrom before lines rest place n → number ≤ n
 
 -- What an answer says of the faults of lines that follow m others, and of the text's end.
-abbrev Says : List Frame → List (List ℕ) → List ℕ → ℕ → Answer Table → Type 0
+abbrev Says : List Frame → List (List ℕ) → List ℕ → ℕ → Answer Parsed → Type 0
 Says before lines rest m (returned t) = (k n : ℕ) → FaultFrom before lines rest k n → ⊥
 Says before lines rest m (refusedBy number line) = (place : ℕ) × (line ≡ m + place + 1) × First before lines rest number place
 
@@ -150,7 +150,7 @@ says-end before p r rest m =
     at-end number f l = (0, omega arith, record { first = λ k n h. absurd (omega arith); fault = f; least = l })
 
 -- A line without fault, before the others.
-says-more : (before : List Frame) (l : List ℕ) (lines : List (List ℕ)) (rest : List ℕ) (m : ℕ) → ((n : ℕ) → Fault before l n → ⊥) → (x : Answer Table)
+says-more : (before : List Frame) (l : List ℕ) (lines : List (List ℕ)) (rest : List ℕ) (m : ℕ) → ((n : ℕ) → Fault before l n → ⊥) → (x : Answer Parsed)
     → Says (before ++ (lineFrame l ∷ [])) lines rest (suc m) x → Says before (l ∷ lines) rest m x
 says-more before l lines rest m none (returned t) h = later
   where
@@ -196,7 +196,7 @@ text-says : (text : List ℕ) → Says [] (linesOf text) (restOf text) 0 (parse 
 unfolding parse
 text-says text = says (linesOf text) [] nothing reached-nothing (restOf text) 0
 
-pub accepted-faultless : (text : List ℕ) (t : Table) → parse text ≡ returned t → (k n : ℕ) → FaultAt text k n → ⊥
+pub accepted-faultless : (text : List ℕ) (t : Table) → parse text ≡ returned (tableRead t) → (k n : ℕ) → FaultAt text k n → ⊥
 accepted-faultless text t e = rw e at (text-says text)
 
 refused-first : (text : List ℕ) (number line : ℕ) → parse text ≡ refusedBy number line → FirstFault text number line
@@ -226,8 +226,8 @@ module _ (text : List ℕ) (number line other at : ℕ) (f : FirstFault text num
 pub refused-exactly : (text : List ℕ) (number line : ℕ) → (parse text ≡ refusedBy number line) ↔ FirstFault text number line
 refused-exactly text number line = (refused-first text number line, go (parse text) refl)
   where
-    go : (x : Answer Table) → parse text ≡ x → FirstFault text number line → parse text ≡ refusedBy number line
-    go (returned t) e f = absurd (accepted-faultless text t e (f .place) number (f .fault))
+    go : (x : Answer Parsed) → parse text ≡ x → FirstFault text number line → parse text ≡ refusedBy number line
+    go (returned r) e f = absurd (accepted-faultless text (r .table) e (f .place) number (f .fault))
     go (refusedBy other at) e f =
         let s = one-fault text number line other at f (refused-first text other at e) in
         e ∙ (λ i. refusedBy (sym (s .0) i) (sym (s .1) i))

@@ -22,7 +22,7 @@ use Rattle.frames.specs.Rows.{rowContent}
 use Rattle.frames.proofs.Laws.Rows.{row-kept, row-passes}
 use Rattle.reader.specs.Lines.{linesOf, restOf}
 use Rattle.reader.specs.Frames.{Frame, aRow, frameOf}
-use Rattle.reader.specs.States.{parse}
+use Rattle.reader.specs.States.{tableRead, parse}
 use Rattle.reader.specs.Rules.{capFrames, framesOf}
 use Rattle.reader.proofs.Laws.Wellformed.{in-range}
 use Rattle.reader.proofs.Laws.Rules.{lineFrame, Digits, accepted-exactly}
@@ -122,7 +122,7 @@ pub record Accepted (text : List ℕ) (t : Table) : Type 0 where
   pub digits : Digits (take (length (linesOf text) - length (t .rows)) (linesOf text))
   pub rows : RowLines t (drop (length (linesOf text) - length (t .rows)) (linesOf text)) (t .rows)
 
-module _ (text : List ℕ) (t : Table) (e : parse text ≡ returned t) where
+module _ (text : List ℕ) (t : Table) (e : parse text ≡ returned (tableRead t)) where
   -- Each line before the rows is an entity's, a cap's, the floor's or a filter's.
   pub accepted-lines : length (linesOf text) ≡ linesBefore 1 t + length (t .rows)
   accepted-lines =

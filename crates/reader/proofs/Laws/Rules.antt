@@ -21,7 +21,7 @@ use Rattle.reader.specs.Frames.{Frame, aFrame, noFrame, frameOf}
 use Rattle.base.specs.Answers.{Answer, returned, refusedBy}
 use Rattle.frames.specs.Progress.{Progress, nothing}
 use Rattle.frames.proofs.Laws.Growing.{Sequenced, Growing, growing-nothing}
-use Rattle.reader.specs.States.{State, reading, refused, checks, grown, takeFrame, step, run, finish, parse}
+use Rattle.reader.specs.States.{Parsed, tableRead, State, reading, refused, checks, grown, takeFrame, step, run, finish, parse}
 use Rattle.reader.specs.Rules.{KeepsRules}
 use Rattle.reader.proofs.Laws.States.{run-refused}
 use Rattle.reader.proofs.Laws.Runs.{pick-either}
@@ -82,8 +82,8 @@ run-told (l ∷ ls) n m p q g e =
     e
 
 -- What a state and the text's end are, by what the text is.
-abbrev Ending : State → List ℕ → Answer Table → Type 0
-Ending s rest (returned t) = (length rest ≡ 0) × (n : ℕ) × (s ≡ reading n (record { table = t; floored = 1 }))
+abbrev Ending : State → List ℕ → Answer Parsed → Type 0
+Ending s rest (returned r) = (length rest ≡ 0) × (n : ℕ) × (s ≡ reading n (record { table = r .table; floored = 1 }))
 Ending s rest (refusedBy k n) = Unit {0}
 
 ending : (s : State) (rest : List ℕ) → Ending s rest (finish s rest)
@@ -96,11 +96,11 @@ ending (reading n p) rest =
     (λ e. tt)
 ending (refused k n) rest = tt
 
-accepted-keeps : (text : List ℕ) (t : Table) → parse text ≡ returned t → KeepsRules text t
+accepted-keeps : (text : List ℕ) (t : Table) → parse text ≡ returned (tableRead t) → KeepsRules text t
 unfolding parse
 accepted-keeps text t e =
     let s = run (reading 0 nothing) (linesOf text) in
-    let x : Ending s (restOf text) (returned t) = rw e at (ending s (restOf text)) in
+    let x : Ending s (restOf text) (returned (tableRead t)) = rw e at (ending s (restOf text)) in
     let told = run-told (linesOf text) 0 _ nothing (record { table = t; floored = 1 }) growing-nothing (x .2) in
     record {
       says = record { ended = length-none (restOf text) (x .0); digits = told .digits; frames = told .frames };
@@ -117,7 +117,7 @@ run-leads [] n p q d h = (n, ap (reading n) h)
 run-leads (l ∷ ls) n p q d h =
     rw (d l (List·Memᴰ·head refl), h .0) (run-leads ls (suc n) (grown p (lineFrame l)) q (λ m k. d m (List·Memᴰ·tail k)) (h .1))
 
-keeps-accepted : (text : List ℕ) (t : Table) → KeepsRules text t → parse text ≡ returned t
+keeps-accepted : (text : List ℕ) (t : Table) → KeepsRules text t → parse text ≡ returned (tableRead t)
 unfolding parse finish
 keeps-accepted text t k =
     let p : Progress = record { table = t; floored = 1 } in
@@ -126,13 +126,13 @@ keeps-accepted text t k =
 
 -- ---- the theorem
 
-pub accepted-exactly : (text : List ℕ) (t : Table) → (parse text ≡ returned t) ↔ KeepsRules text t
+pub accepted-exactly : (text : List ℕ) (t : Table) → (parse text ≡ returned (tableRead t)) ↔ KeepsRules text t
 accepted-exactly text t = (accepted-keeps text t, keeps-accepted text t)
 
 pub refused-otherwise : (text : List ℕ) → ((t : Table) → KeepsRules text t → ⊥)
     → (number : ℕ) × (line : ℕ) × (parse text ≡ refusedBy number line)
 refused-otherwise text none = go (parse text) refl
   where
-    go : (x : Answer Table) → parse text ≡ x → (number : ℕ) × (line : ℕ) × (parse text ≡ refusedBy number line)
-    go (returned t) e = absurd (none t (accepted-keeps text t e))
+    go : (x : Answer Parsed) → parse text ≡ x → (number : ℕ) × (line : ℕ) × (parse text ≡ refusedBy number line)
+    go (returned r) e = absurd (none (r .table) (accepted-keeps text (r .table) e))
     go (refusedBy number line) e = (number, line, e)

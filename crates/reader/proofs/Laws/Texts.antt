@@ -27,7 +27,7 @@ use Rattle.policy.specs.Wellformed.{RowRule, Wellformed}
 use Rattle.policy.proofs.Laws.Changed.{wellformed-rows}
 use Rattle.base.proofs.Laws.Each.{each-append}
 use Rattle.reader.specs.Lines.{lineFeed, linesFrom, restFrom, linesOf, restOf, textOf}
-use Rattle.reader.specs.States.{parse}
+use Rattle.reader.specs.States.{tableRead, parse}
 use Rattle.reader.specs.Frames.{Frame, aRow}
 use Rattle.reader.specs.Rules.{HasFrames, RowRun, framesOf}
 use Rattle.reader.proofs.Laws.Wellformed.{accepted-wellformed}
@@ -182,7 +182,7 @@ frames-append a b fs gs h k =
 module _ (t : Table) (w : Wellformed t) (done : List Row) (kept : (k : ℕ) → k < length done → RowRule t (getD done k noRow))
     (text : List ℕ) (f : HasFrames text (framesOf (withRows done t)))
     (ls : List (List ℕ)) (rs : List Row) (b : length done + length ls ≤ mostRows) (h : RowLines t ls rs) where
-  parse-rows : parse (text ++ textOf ls) ≡ returned (withRows (done ++ rs) t)
+  parse-rows : parse (text ++ textOf ls) ≡ returned (tableRead (withRows (done ++ rs) t))
   parse-rows =
       let run : RowRun (textOf ls) rs = subst (HasFrames (textOf ls)) (rows-said (parentsOf t) ls rs h) (frames-written ls (rows-digits (parentsOf t) ls rs h)) in
       let long = rows-counted (parentsOf t) ls rs h in
@@ -193,11 +193,11 @@ module _ (t : Table) (w : Wellformed t) (done : List Row) (kept : (k : ℕ) → 
         well = wellformed-rows w (done ++ rs) few (each-append (RowRule t) done rs noRow kept (rows-kept t ls rs h));
       })
 
-module _ (text : List ℕ) (t : Table) (e : parse text ≡ returned t) where
+module _ (text : List ℕ) (t : Table) (e : parse text ≡ returned (tableRead t)) where
   module _ (ls : List (List ℕ)) (rs : List Row) where
     -- An accepted text, with other row lines in place of its own, gives the same table with those rows.
     pub accepted-text-other-rows : length ls ≤ mostRows → RowLines t ls rs
-        → parse (textOf (take (length (linesOf text) - length (t .rows)) (linesOf text) ++ ls)) ≡ returned (withRows rs t)
+        → parse (textOf (take (length (linesOf text) - length (t .rows)) (linesOf text) ++ ls)) ≡ returned (tableRead (withRows rs t))
     accepted-text-other-rows b h =
         let a = accepted-rows text t e in
         let others = take (length (linesOf text) - length (t .rows)) (linesOf text) in
@@ -207,13 +207,13 @@ module _ (text : List ℕ) (t : Table) (e : parse text ≡ returned t) where
 
     -- Row lines that follow an accepted text give the rows more.
     pub accepted-text-more-rows : length (t .rows) + length ls ≤ mostRows → RowLines t ls rs
-        → parse (text ++ textOf ls) ≡ returned (extended rs t)
+        → parse (text ++ textOf ls) ≡ returned (tableRead (extended rs t))
     accepted-text-more-rows b h =
         let k = accepted-exactly text t .0 e in
         parse-rows t (k .well) (t .rows) (k .well .row) text (k .says) ls rs b h
 
   -- What an accepted text and a run of row lines after it give, where they are accepted, is the text's table with those rows more.
-  pub accepted-text-extended : (more : List ℕ) (added : List Row) (u : Table) → RowRun more added → parse (text ++ more) ≡ returned u → u ≡ extended added t
+  pub accepted-text-extended : (more : List ℕ) (added : List Row) (u : Table) → RowRun more added → parse (text ++ more) ≡ returned (tableRead u) → u ≡ extended added t
   accepted-text-extended more added u r f =
       let both = frames-append text more (framesOf t) (map aRow added) (accepted-exactly text t .0 e .says) r in
       one-table u (extended added t)

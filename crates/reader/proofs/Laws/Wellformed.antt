@@ -28,7 +28,7 @@ use Rattle.frames.proofs.Laws.Growing.{Growing, growing-nothing}
 use Rattle.frames.proofs.Laws.Kinds.{InRange, lawful}
 use Rattle.reader.specs.Lines.{linesOf, restOf}
 use Rattle.reader.specs.Frames.{Frame, aFrame, noFrame, frameAmong, frameOfKind, frameOf}
-use Rattle.reader.specs.States.{State, reading, refused, checks, grown, takeFrame, step, run, finish, parse}
+use Rattle.reader.specs.States.{Parsed, tableRead, State, reading, refused, checks, grown, takeFrame, step, run, finish, parse}
 use Rattle.reader.proofs.Laws.Runs.{pick-either, run-keeps}
 
 -- ---- the numbers of a line's frame
@@ -146,8 +146,8 @@ growing-wellformed p g f =
     }
 
 -- What holds of what a text is.
-abbrev Ended : Answer Table → Type 0
-Ended (returned t) = Wellformed t
+abbrev Ended : Answer Parsed → Type 0
+Ended (returned r) = Wellformed (r .table)
 Ended (refusedBy k n) = Small k n
 
 end-sound : (s : State) (rest : List ℕ) → Sound s → Ended (finish s rest)
@@ -163,7 +163,7 @@ parse-sound : (text : List ℕ) → Ended (parse text)
 unfolding parse
 parse-sound text = end-sound (run (reading 0 nothing) (linesOf text)) (restOf text) (run-sound (linesOf text))
 
-pub accepted-wellformed : (text : List ℕ) (t : Table) → parse text ≡ returned t → Wellformed t
+pub accepted-wellformed : (text : List ℕ) (t : Table) → parse text ≡ returned (tableRead t) → Wellformed t
 accepted-wellformed text t e = rw e at (parse-sound text)
 
 pub refused-line : (text : List ℕ) (k n : ℕ) → parse text ≡ refusedBy k n → (n < 256) × ((1 ≤ k) × (k ≤ protectedNull))

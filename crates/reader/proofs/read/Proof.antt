@@ -8,8 +8,7 @@ use denote.Ref.{now}
 use lib.ListN.{length, take, drop, length-take, length-drop}
 use Rattle.reader.specs.Lines.{linesFrom, restFrom}
 use Rattle.base.specs.Answers.{Answer}
-use Rattle.policy.specs.Model.{Table}
-use Rattle.reader.specs.States.{State, run, finish, parse}
+use Rattle.reader.specs.States.{Parsed, State, run, finish, parse}
 use Rattle.reader.specs.Views.{stateOf, Ready}
 use Rattle.reader.specs.declared.Reader.{Reader}
 use Rattle.reader.proofs.Laws.Lines.{lines-feed, rest-feed, lines-other, rest-other, lines-end, rest-end, grown-line}
@@ -18,7 +17,7 @@ use Rattle.reader.proofs.read.Statement.{statement}
 use Rattle.reader.proofs.read.Tie as tie
 
 -- what the text is, from place i on, with the line that began
-abbrev onward : State → List ℕ → List ℕ → ℕ → Answer Table
+abbrev onward : State → List ℕ → List ℕ → ℕ → Answer Parsed
 onward s line text i = finish (run s (linesFrom line (drop i text))) (restFrom line (drop i text))
 
 abbrev begun : List ℕ → ℕ → ℕ → List ℕ

@@ -10,7 +10,8 @@ use lib.ListN.{length}
 use Rattle.policy.specs.Model.{Range, Selector}
 use Rattle.policy.specs.Wellformed.{Ordered}
 use Rattle.covers.specs.Least.{SearchResult, none, Right}
-use Rattle.search.specs.Search.{narrow, next, Candidate, value, last, or-later, onward, tries, from, search}
+use Rattle.covers.specs.Views.{NextValue, comes, end}
+use Rattle.search.specs.Search.{narrow, next, or-later, onward, tries, from, search}
 use Rattle.covers.proofs.Laws.Least.{EachSized, right-unique}
 use Rattle.search.proofs.Laws.Right.{search-right}
 use Rattle.search.proofs.Laws.Walks.{risen}
@@ -30,9 +31,9 @@ single : (rest : List Selector → SearchResult) (v high : ℕ) (bs : List Selec
 unfolding tries
 single rest v high bs = go (next v high bs)
   where
-    go : (t : Candidate) → or-later v (rest (narrow v bs)) (onward t (λ w. none)) ≡ or-later v (rest (narrow v bs)) none
-    go (value w) = refl
-    go last = refl
+    go : (t : NextValue) → or-later v (rest (narrow v bs)) (onward t (λ w. none)) ≡ or-later v (rest (narrow v bs)) none
+    go (comes w) = refl
+    go end = refl
 
 from-risen : (rest : List Selector → SearchResult) (r : Range) (bs : List Selector)
     → from rest (r .low) (r .high) bs ≡ from rest (r .low) (max (r .low) (r .high)) bs

@@ -19,7 +19,8 @@ use Rattle.relations.specs.Selectors.{Holds}
 use Rattle.base.proofs.Laws.Decides.{decides-leb, decides-ltb, decides-and, decides-holds}
 use Rattle.relations.proofs.Laws.Selectors.{within-decides, holds-both, holds-first, holds-rest, holds-nothing, not-longer, not-shorter}
 use Rattle.covers.specs.Least.{SearchResult, found, none, _≤ₚ_, done, less, same, Claimed, Least, Right}
-use Rattle.search.specs.Search.{first, narrow, lesser, least, value, last, or-later, onward, tries, from, search}
+use Rattle.covers.specs.Views.{comes, end}
+use Rattle.search.specs.Search.{first, narrow, lesser, least, or-later, onward, tries, from, search}
 use Rattle.base.proofs.Laws.Passing.{passing-of, passing-in}
 use Rattle.covers.proofs.Laws.Least.{EachSized, sized-member}
 
@@ -162,7 +163,7 @@ module _ (r : Range) (rs : Selector) (bs : List Selector) (sized : EachSized (su
     where
       go : (o : SearchResult) → Right rs (narrow v bs) o → (t : Bool) → ltb (least v (r .high) bs) (r .high) ≡ t
           → ((x : ℕ) → Within r x → r .high < x + n → Passed x → Right (r ∷ rs) bs (tries rest n x (r .high) bs))
-          → Right (r ∷ rs) bs (or-later v o (onward (pick t (value (least v (r .high) bs + 1)) last) (λ x. tries rest n x (r .high) bs)))
+          → Right (r ∷ rs) bs (or-later v o (onward (pick t (comes (least v (r .high) bs + 1)) end) (λ x. tries rest n x (r .high) bs)))
       go (found p) m t l more = here v p w g m
       go none m true l more =
           let h = ltb-true (least v (r .high) bs) (r .high) l in

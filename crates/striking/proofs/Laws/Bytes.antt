@@ -17,13 +17,13 @@ use Rattle.policy.specs.Limits.{mostRows}
 use Rattle.policy.specs.Model.{Table, linesBefore}
 use Rattle.reader.specs.Lines.{lineFeed, linesOf, restOf, textOf}
 use Rattle.base.specs.Answers.{returned}
-use Rattle.reader.specs.States.{parse}
+use Rattle.reader.specs.States.{tableRead, parse}
 use Rattle.reader.proofs.Laws.Rows.{accepted-rows, accepted-lines}
 use Rattle.reader.proofs.Laws.Texts.{NotFeed, NoFeed, AllNoFeed, text-cut, lines-clean}
 use Rattle.reader.proofs.Laws.Wellformed.{accepted-wellformed}
 use Rattle.base.proofs.Laws.Lists.{length-none}
 use Rattle.base.proofs.Laws.Passing.{bit-le}
-use Rattle.kinds.specs.Tests.{dead}
+use Rattle.verdicts.specs.Verdicts.{dead}
 use Rattle.base.specs.Lists.{numbersFrom}
 use Rattle.striking.specs.Striking.{kept}
 use Rattle.striking.specs.Texts.{struckText}
@@ -139,7 +139,7 @@ module _ (keep : ℕ → Bool) where
 
 -- ---- the struck text
 
-module _ (text : List ℕ) (t : Table) (e : parse text ≡ returned t) where
+module _ (text : List ℕ) (t : Table) (e : parse text ≡ returned (tableRead t)) where
   abbrev ls : List (List ℕ)
   ls = linesOf text
 

@@ -18,8 +18,8 @@ use Rattle.base.specs.Truths.{Decides}
 use Rattle.base.proofs.Laws.Decides.{decides-not, decides-holds}
 use Rattle.base.proofs.Laws.Members.{member-at, at-member}
 use Rattle.base.proofs.Laws.Numbers.{Numbers, numbers}
-use Rattle.kinds.specs.Tests.{dead}
-use Rattle.kinds.proofs.Laws.Rows.{dead-decides}
+use Rattle.verdicts.specs.Verdicts.{dead}
+use Rattle.verdicts.proofs.Laws.Verdicts.{dead-decides}
 use Rattle.striking.specs.Striking.{kept}
 
 module _ (t : Table) where

@@ -15,7 +15,7 @@ use Rattle.relations.specs.declared.group.Outcome.the-variants.{Won, Nobody}
 use Rattle.base.proofs.Laws.Decides.{decides-holds}
 use Rattle.relations.proofs.Laws.Groups.{group-sym, group-trans, group-wins, group-nobody}
 use Rattle.relations.proofs.Laws.Renumbered.{wins-renumbered}
-use Rattle.kinds.specs.Tests.{dead}
+use Rattle.verdicts.specs.Verdicts.{dead}
 use Rattle.striking.specs.Striking.{kept, struck, SameWinner, Struck}
 use Rattle.striking.proofs.Laws.Kept.{kept-rows, kept-row, alive-decides}
 use Rattle.striking.proofs.Laws.Tables.{length-struck, row-struck, struck-well}

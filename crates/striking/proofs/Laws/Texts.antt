@@ -10,7 +10,7 @@ use Rattle.base.specs.Answers.{returned}
 use Rattle.policy.specs.Limits.{mostRows}
 use Rattle.policy.specs.Model.{Table, withRows, linesBefore, rowAt}
 use Rattle.reader.specs.Lines.{linesOf, textOf}
-use Rattle.reader.specs.States.{parse}
+use Rattle.reader.specs.States.{tableRead, parse}
 use Rattle.reader.proofs.Laws.Rows.{RowLine, RowLines, accepted-row, accepted-lines}
 use Rattle.reader.proofs.Laws.Texts.{accepted-text-other-rows}
 use Rattle.reader.proofs.Laws.Wellformed.{accepted-wellformed}
@@ -18,7 +18,7 @@ use Rattle.striking.specs.Striking.{kept, struck}
 use Rattle.striking.specs.Texts.{keptLines, struckText}
 use Rattle.striking.proofs.Laws.Kept.{kept-rows, kept-row}
 
-module _ (text : List ℕ) (t : Table) (e : parse text ≡ returned t) where
+module _ (text : List ℕ) (t : Table) (e : parse text ≡ returned (tableRead t)) where
   abbrev lineAt : ℕ → List ℕ
   lineAt i = getD (linesOf text) (linesBefore 1 t + i) []
 
@@ -40,12 +40,12 @@ module _ (text : List ℕ) (t : Table) (e : parse text ≡ returned t) where
   row-lines (k ∷ ks) h = (row-line k (h 0 (omega arith)), row-lines ks (λ m b. h (suc m) (omega arith)))
 
   pub kept-parses : (ks : List ℕ) → length ks ≤ mostRows → ((m : ℕ) → m < length ks → getD ks m 0 < length (t .rows))
-      → parse (textOf (keptLines (linesBefore 1 t) ks (linesOf text))) ≡ returned (withRows (map (rowAt t) ks) t)
+      → parse (textOf (keptLines (linesBefore 1 t) ks (linesOf text))) ≡ returned (tableRead (withRows (map (rowAt t) ks) t))
   kept-parses ks few h =
       let n = length-map ks lineAt in
       rw before at (accepted-text-other-rows text t e (map lineAt ks) (map (rowAt t) ks) (omega arith) (row-lines ks h))
 
-  pub struck-parses : parse (struckText text t) ≡ returned (struck t)
+  pub struck-parses : parse (struckText text t) ≡ returned (tableRead (struck t))
   unfolding struckText
   struck-parses =
       let k = kept-rows t in

@@ -11,10 +11,9 @@ use Rattle.policy.specs.Views.{tableOf}
 use Rattle.base.proofs.Laws.Lists.{getD-replicated, filled-more}
 use Rattle.policy.proofs.Laws.Lists.{length-rows}
 use Rattle.policy.proofs.Laws.Tables.{Sized, sized}
-use Rattle.verdicts.specs.Verdicts.{isNone}
+use Rattle.verdicts.specs.Verdicts.{isNone, dead}
 use Rattle.verdicts.proofs.Laws.Tables.{lent-verdict}
 use Rattle.covers.proofs.Laws.Tables.{lent-asked}
-use Rattle.kinds.specs.Tests.{dead}
 use Rattle.striking.proofs.dead_rows.Statement.{statement}
 use Rattle.striking.proofs.dead_rows.Tie as tie
 

@@ -1,9 +1,12 @@
--- The verdict on a row of a well-formed table is right.
+-- The verdict on a row of a well-formed table is right, and the test of dead rows finds just those.
 -- Assumes nothing.
 use Prim.Native.Nat.{ℕ, _<_}
+use native.Mathlib.Omega.{arith}
 use mathlib.Core.Path.{_≡_, refl}
 use mathlib.Core.Logic.{inl, inr}
 use lib.ListN.{length}
+use Rattle.base.specs.Truths.{Decides}
+use Rattle.base.proofs.Laws.Decides.{decides-true, decides-false, decides-as}
 use Rattle.policy.specs.Model.{Packet, Table, rowAt}
 use Rattle.policy.specs.Wellformed.{Wellformed}
 use Rattle.relations.specs.Groups.{Wins, Dead}
@@ -13,7 +16,7 @@ use Rattle.covers.specs.Least.{SearchResult, found, none, Claimed, Least, Right
 use Rattle.covers.specs.Covers.{coverOn}
 use Rattle.covers.proofs.Laws.Claims.{claimed-hidden, hidden-claimed, sized-cover}
 use Rattle.search.proofs.Laws.Right.{search-right}
-use Rattle.verdicts.specs.Verdicts.{verdictAfter, verdictOn}
+use Rattle.verdicts.specs.Verdicts.{verdictAfter, verdictOn, isNone, dead}
 use Rattle.verdicts.specs.Promises.{Verdicts}
 
 module _ (t : Table) (w : Wellformed t) (i : ℕ) (row : i < length (t .rows)) where
@@ -59,3 +62,12 @@ module _ (t : Table) (w : Wellformed t) (i : ℕ) (row : i < length (t .rows)) w
       dead-none (found p) e d =
           absurd (d (rowAt t i .source) (rowAt t i .destination) p (w .row i row .source) (w .row i row .destination) (own-wins p e))
       dead-none none e d = e
+
+-- ---- the test
+
+isNone-decides : (a : SearchResult) → Decides (isNone a) (a ≡ none)
+isNone-decides none = decides-true refl
+isNone-decides (found p) = decides-false (λ e. let z : _≡_ {A = ℕ} 0 1 = cc in omega arith)
+
+pub dead-decides : (t : Table) → Wellformed t → (i : ℕ) → i < length (t .rows) → Decides (dead t i) (Dead t i)
+dead-decides t w i h = let v = verdicts t w i h .dead in decides-as (v .0) (v .1) (isNone-decides (verdictOn t i))

@@ -9,7 +9,8 @@ use Rattle.policy.specs.Limits.{mostSelectors}
 use Rattle.policy.specs.Model.{Range}
 use Rattle.policy.specs.Views.{value, rangeOf}
 use Rattle.covers.specs.Sets.{fieldOf}
-use Rattle.mesh.specs.Views.{NextCut, nextOf, withCut, Nearest}
+use Rattle.covers.specs.Views.{NextValue, nextOf}
+use Rattle.mesh.specs.Views.{withCut, Nearest}
 use Rattle.mesh.proofs.Laws.Nearest.{CutBy, nearest-none, nearest-box, nearest-cut}
 use Rattle.mesh.proofs.cuts.after.Statement.{statement}
 use Rattle.mesh.proofs.cuts.after.Tie as tie
@@ -37,7 +38,7 @@ again c =
       subst (Nearest (CutBy r (fieldOf (now (a .bounds)) (now (a .at)) (a .f)) v (l .loop .k + 1)) v)
           (sym
           (c .with-high .ensures
-          ∙ ap (λ (n : NextCut). withCut r v (rangeOf (w .before .range-at .result) .high + 1) n) (w .with-low .ensures)
+          ∙ ap (λ (n : NextValue). withCut r v (rangeOf (w .before .range-at .result) .high + 1) n) (w .with-low .ensures)
           ∙ ap (λ (x : Range). withCut r v (x .high + 1) (withCut r v (x .low) (nextOf (l .loop .next)))) e))
           (nearest-box r (fieldOf (now (a .bounds)) (now (a .at)) (a .f)) v (l .before .pre .2) (l .loop .k) (nextOf (l .loop .next)) (l .loop .inv .1)),
     )

@@ -9,8 +9,9 @@ use Rattle.policy.specs.Model.{Range}
 use Rattle.policy.specs.Views.{value, rangeOf, rangeIn}
 use Rattle.relations.specs.Ranges.{Within}
 use Rattle.covers.specs.Sets.{In, Numbered, fieldOf, Narrowed}
+use Rattle.covers.specs.Views.{comes, nextOf}
 use Rattle.mesh.specs.Promises.{Cut}
-use Rattle.mesh.specs.Views.{cut, nextOf, Nearest, fieldsOf, cutsOf, mostCuts, setCount}
+use Rattle.mesh.specs.Views.{Nearest, fieldsOf, cutsOf, mostCuts, setCount}
 use Rattle.mesh.proofs.Laws.Filled.{cuts-fit, cut-within, Filling, filling-start, filling-next, filling-end, in-array, all-numbered}
 use Rattle.mesh.proofs.cuts.fill.Statement.{statement}
 use Rattle.mesh.proofs.cuts.fill.Tie as tie
@@ -39,7 +40,8 @@ module _ (c : tie.After-next I μ) where
   abbrev r : Range
   r = rangeIn (now (s .args .bounds)) (s .args .row) (s .args .f)
 
-  here : Filling (now (s .args .bounds)) (now (s .args .at)) (s .args .count) (s .args .row) (s .args .f) (now (s .args .sets)) (l .loop .sets) (l .loop .n) (cut v)
+  here : Filling (now (s .args .bounds)) (now (s .args .at)) (s .args .count) (s .args .row) (s .args .f) (now (s .args .sets)) (l .loop .sets) (l .loop .n)
+      (comes v)
   here =
       subst
       (λ next. Filling (now (s .args .bounds)) (now (s .args .at)) (s .args .count) (s .args .row) (s .args .f) (now (s .args .sets)) (l .loop .sets) (l .loop .n) (nextOf next))

@@ -8,14 +8,15 @@ use lib.ListN.{length, getD}
 use Rattle.policy.specs.Model.{Range}
 use Rattle.policy.specs.Views.{value, rangeOf, rangeIn}
 use Rattle.relations.specs.Ranges.{Within}
+use Rattle.covers.specs.Views.{comes, nextOf}
 use Rattle.mesh.specs.Promises.{Cut}
-use Rattle.mesh.specs.Views.{cut, nextOf, Nearest, fieldsOf, cutsOf}
+use Rattle.mesh.specs.Views.{Nearest, fieldsOf, cutsOf}
 use Rattle.mesh.proofs.Laws.Filled.{AtCut, at-first, at-next, cut-within, next-reached}
 use Rattle.mesh.proofs.cuts.nth.Statement.{statement}
 use Rattle.mesh.proofs.cuts.nth.Tie as tie
 
 abbrev I : tie.InvT-loop
-I bounds at count row f i r v₀ j₀ v j = (j ≤ i) × AtCut (cutsOf bounds at count row f) j (cut (value v))
+I bounds at count row f i r v₀ j₀ v j = (j ≤ i) × AtCut (cutsOf bounds at count row f) j (comes (value v))
 
 abbrev μ : tie.MeasureT-loop
 μ bounds at count row f i r v₀ j₀ v j = i - j

@@ -1,7 +1,8 @@
 -- `reached` meets its contract: each case has its number. Assumes nothing.
 use mathlib.Core.Path.{sym, ap}
 use Rattle.policy.specs.Views.{value}
-use Rattle.mesh.specs.Views.{nextOf, reachedOf}
+use Rattle.covers.specs.Views.{nextOf}
+use Rattle.mesh.specs.Views.{reachedOf}
 use Rattle.mesh.proofs.cuts.reached.Statement.{statement}
 use Rattle.mesh.proofs.cuts.reached.Tie as tie
 

@@ -6,7 +6,8 @@ use native.Mathlib.Numerals.{add-one}
 use Prim.Native.Nat.{ℕ, _+_, _≤_, _<_}
 use mathlib.Core.Path.{_≡_, sym, ap, _∙_}
 use Rattle.policy.specs.Views.{value, rangeOf}
-use Rattle.mesh.specs.Views.{nearerOf, nextOf}
+use Rattle.covers.specs.Views.{nextOf}
+use Rattle.mesh.specs.Views.{nearerOf}
 use Rattle.mesh.proofs.Laws.Nearest.{cut-passed, cut-outside, cut-taken}
 use Rattle.mesh.proofs.cuts.with_high.Statement.{statement}
 use Rattle.mesh.proofs.cuts.with_high.Tie as tie

@@ -3,7 +3,7 @@ use borrow.Author.Needs.{needs}
 use borrow.Author.Tests.{leb-true, leb-false}
 use mathlib.Core.Path.{sym, _∙_}
 use Rattle.policy.specs.Views.{value, rangeOf}
-use Rattle.mesh.specs.Views.{nextOf}
+use Rattle.covers.specs.Views.{nextOf}
 use Rattle.mesh.proofs.Laws.Nearest.{cut-passed, cut-outside, cut-taken}
 use Rattle.mesh.proofs.cuts.with_low.Statement.{statement}
 use Rattle.mesh.proofs.cuts.with_low.Tie as tie

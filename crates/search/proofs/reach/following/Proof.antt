@@ -11,14 +11,14 @@ use lib.ListN.{getD}
 use Rattle.policy.specs.Limits.{mostSelectors}
 use Rattle.policy.specs.Model.{Range}
 use Rattle.policy.specs.Views.{value}
-use Rattle.search.specs.Covers.{highs, Reaches}
+use Rattle.search.specs.Covers.{highOf, Reaches}
 use Rattle.covers.proofs.Laws.Sets.{Left, left-all, next-small, next-number, next-falls, left-next}
 use Rattle.search.proofs.Laws.Reach.{ReachesBefore, reaches-start, reaches-next, reaches-all}
 use Rattle.search.proofs.reach.following.Statement.{statement}
 use Rattle.search.proofs.reach.following.Tie as tie
 
 abbrev I : tie.InvT-loop
-I bounds at f cover high m₀ rest₀ m rest = Left cover rest × ReachesBefore (highs bounds at f) cover (value high) (value m) rest
+I bounds at f cover high m₀ rest₀ m rest = Left cover rest × ReachesBefore (highOf bounds at f) cover (value high) (value m) rest
 
 abbrev μ : tie.MeasureT-loop
 μ bounds at f cover high m₀ rest₀ m rest = rest
@@ -33,14 +33,14 @@ again c =
     let z = c .before .before .before .loop-test .taken in
     let s = l .before in
     let j = trailingZeros 64 (l .loop .rest) in
-    let m : value (c .lesser .result) ≡ min (highs (now (s .args .bounds)) (now (s .args .at)) (s .args .f) j) (value (l .loop .m)) =
+    let m : value (c .lesser .result) ≡ min (highOf (now (s .args .bounds)) (now (s .args .at)) (s .args .f) j) (value (l .loop .m)) =
     c .lesser .ensures ∙ ap (λ (r : Range). min (r .high) (value (l .loop .m))) (c .before .range-at .ensures) in
     (left-next _ _ (l .loop .inv .0) z, rw m (reaches-next _ _ _ (l .loop .inv .0) z _ _ (l .loop .inv .1)))
 
 -- the least of all, and what the test of it and the row's high says
 least : (c : tie.After-at-most I μ)
-    → Reaches (highs (now (c .before .before .before .args .bounds)) (now (c .before .before .before .args .at)) (c .before .before .before .args .f)) (c .before .before .before .args .cover)
-    (value (c .before .before .before .args .high)) (value (c .before .before .loop .m))
+    → Reaches (highOf (now (c .before .before .before .args .bounds)) (now (c .before .before .before .args .at)) (c .before .before .before .args .f))
+    (c .before .before .before .args .cover) (value (c .before .before .before .args .high)) (value (c .before .before .loop .m))
 least c = reaches-all _ _ _ _ _ (c .before .loop-test .left) (c .before .before .loop .inv .1)
 
 most : (c : tie.Then1 I μ) → value (c .before .before .before .before .args .high) ≤ value (c .before .before .before .loop .m)

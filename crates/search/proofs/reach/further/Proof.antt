@@ -6,7 +6,7 @@ use mathlib.Core.Path.{_≡_, sym, _∙_}
 use native.Mathlib.Omega.{arith}
 use denote.Ref.{now}
 use lib.Dec.{leb}
-use Rattle.search.specs.Covers.{highs}
+use Rattle.search.specs.Covers.{highOf}
 use Rattle.search.proofs.reach.further.Statement.{statement}
 use Rattle.search.proofs.reach.further.Tie as tie
 
@@ -15,7 +15,7 @@ abbrev start : tie.After-at-most → tie.Start
 start c = c .before .before .before .before .before .before .before
 
 abbrev high : tie.After-at-most → ℕ → ℕ
-high c = highs (now (start c .args .bounds)) (now (start c .args .at)) (start c .args .f)
+high c = highOf (now (start c .args .bounds)) (now (start c .args .at)) (start c .args .f)
 
 -- the test is whether the box at k reaches no further
 tested : (c : tie.After-at-most) → c .at-most .result ≡ leb (high c (start c .args .k)) (high c (start c .args .j))

@@ -8,14 +8,14 @@ use lib.Dec.{lit<}
 use lib.Pow.{shl-exact}
 use Rattle.base.proofs.Laws.Bits.{small-marked}
 use Rattle.policy.specs.Limits.{mostRows}
-use Rattle.search.specs.Covers.{highs}
+use Rattle.search.specs.Covers.{highOf}
 use Rattle.covers.proofs.Laws.Sets.{Left, left-all, next-small, next-number, next-falls, left-next}
 use Rattle.search.proofs.Laws.Reach.{BestBefore, best-start, best-next, best-all}
 use Rattle.search.proofs.reach.furthest.Statement.{statement}
 use Rattle.search.proofs.reach.furthest.Tie as tie
 
 abbrev I : tie.InvT-loop
-I bounds at f set best₀ rest₀ best rest = Left set rest × BestBefore (highs bounds at f) set best rest
+I bounds at f set best₀ rest₀ best rest = Left set rest × BestBefore (highOf bounds at f) set best rest
 
 abbrev μ : tie.MeasureT-loop
 μ bounds at f set best₀ rest₀ best rest = rest

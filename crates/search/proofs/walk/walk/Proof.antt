@@ -13,10 +13,9 @@ use Rattle.policy.specs.Views.{value, rangeOf, rangeIn, selectorIn}
 use Rattle.policy.specs.declared.selector.Range.{Range as RangeStruct}
 use Rattle.covers.specs.Least.{SearchResult, Right}
 use Rattle.search.specs.Search.{search as searched}
-use Rattle.covers.specs.Views.{boxesAt}
-use Rattle.search.specs.Views.{candidateOf}
+use Rattle.covers.specs.Views.{boxesAt, nextOf}
 use Rattle.covers.specs.Sets.{In, Numbered}
-use Rattle.search.specs.Covers.{boxOf}
+use Rattle.search.specs.Covers.{boxIn}
 use Rattle.search.specs.Turns.{turned}
 use Rattle.search.proofs.Laws.Walks.{Walked, walked-start, left, risen}
 use Rattle.search.proofs.Laws.Levels.{Keeps, keeps-none, keeps-more, Fails, fails-last, Stands, level-start, level-end, level-fails, level-falls, level-next, first-next, level-found, last-found, all-numbered, found-right, none-right, boxesOf, boxes-sized}
@@ -42,52 +41,57 @@ from1 r1 r2 r3 r4 = risen (rangeOf r1) ∷ from2 r2 r3 r4
 
 abbrev I4 : tie.InvT-loop4
 I4 bounds row lead limit f1 f2 f3 f4 r0 r1 r2 r3 r4 left₀ at a0 kept1 kept2 kept3 kept4 v0 a1 k1 v1 a2 k2 v2 a3 k3 v3 a4 k4₀ n4₀ k4 n4 =
-    Walked (boxOf bounds at (f4 ∷ [])) (rangeOf r4) [] (In a4) (In k4) (candidateOf n4)
+    Walked (boxIn bounds at (f4 ∷ [])) (rangeOf r4) [] (In a4) (In k4) (nextOf n4)
 
 abbrev m4 : tie.MeasureT-loop4
-m4 bounds row lead limit f1 f2 f3 f4 r0 r1 r2 r3 r4 left₀ at a0 kept1 kept2 kept3 kept4 v0 a1 k1 v1 a2 k2 v2 a3 k3 v3 a4 k4₀ n4₀ k4 n4 = left (value (r4 .high)) (candidateOf n4)
+m4 bounds row lead limit f1 f2 f3 f4 r0 r1 r2 r3 r4 left₀ at a0 kept1 kept2 kept3 kept4 v0 a1 k1 v1 a2 k2 v2 a3 k3 v3 a4 k4₀ n4₀ k4 n4 =
+    left (value (r4 .high)) (nextOf n4)
 
 abbrev I3 : tie.InvT-loop3
 I3 bounds row lead limit f1 f2 f3 f4 r0 r1 r2 r3 r4 left₀ at a0 kept1 kept2 kept3 kept4₀ v0 a1 k1 v1 a2 k2 v2 a3 k3₀ n3₀ left′ kept4 k3 n3 =
-    Walked (boxOf bounds at (f3 ∷ f4 ∷ [])) (rangeOf r3) (from4 r4) (In a3) (In k3) (candidateOf n3)
-    × Keeps (boxOf bounds at (f4 ∷ [])) (from4 r4) kept4
+    Walked (boxIn bounds at (f3 ∷ f4 ∷ [])) (rangeOf r3) (from4 r4) (In a3) (In k3) (nextOf n3)
+    × Keeps (boxIn bounds at (f4 ∷ [])) (from4 r4) kept4
     × (limit ≡ 0 → left′ ≡ 0)
 
 abbrev m3 : tie.MeasureT-loop3
-m3 bounds row lead limit f1 f2 f3 f4 r0 r1 r2 r3 r4 left₀ at a0 kept1 kept2 kept3 kept4₀ v0 a1 k1 v1 a2 k2 v2 a3 k3₀ n3₀ left′ kept4 k3 n3 = left (value (r3 .high)) (candidateOf n3)
+m3 bounds row lead limit f1 f2 f3 f4 r0 r1 r2 r3 r4 left₀ at a0 kept1 kept2 kept3 kept4₀ v0 a1 k1 v1 a2 k2 v2 a3 k3₀ n3₀ left′ kept4 k3 n3 =
+    left (value (r3 .high)) (nextOf n3)
 
 abbrev I2 : tie.InvT-loop2
 I2 bounds row lead limit f1 f2 f3 f4 r0 r1 r2 r3 r4 left₀ at a0 kept1 kept2 kept3₀ kept4₀ v0 a1 k1 v1 a2 k2₀ n2₀ left′ kept3 kept4 k2 n2 =
-    Walked (boxOf bounds at (f2 ∷ f3 ∷ f4 ∷ [])) (rangeOf r2) (from3 r3 r4) (In a2) (In k2) (candidateOf n2)
-    × Keeps (boxOf bounds at (f3 ∷ f4 ∷ [])) (from3 r3 r4) kept3
-    × Keeps (boxOf bounds at (f4 ∷ [])) (from4 r4) kept4
+    Walked (boxIn bounds at (f2 ∷ f3 ∷ f4 ∷ [])) (rangeOf r2) (from3 r3 r4) (In a2) (In k2) (nextOf n2)
+    × Keeps (boxIn bounds at (f3 ∷ f4 ∷ [])) (from3 r3 r4) kept3
+    × Keeps (boxIn bounds at (f4 ∷ [])) (from4 r4) kept4
     × (limit ≡ 0 → left′ ≡ 0)
 
 abbrev m2 : tie.MeasureT-loop2
-m2 bounds row lead limit f1 f2 f3 f4 r0 r1 r2 r3 r4 left₀ at a0 kept1 kept2 kept3₀ kept4₀ v0 a1 k1 v1 a2 k2₀ n2₀ left′ kept3 kept4 k2 n2 = left (value (r2 .high)) (candidateOf n2)
+m2 bounds row lead limit f1 f2 f3 f4 r0 r1 r2 r3 r4 left₀ at a0 kept1 kept2 kept3₀ kept4₀ v0 a1 k1 v1 a2 k2₀ n2₀ left′ kept3 kept4 k2 n2 =
+    left (value (r2 .high)) (nextOf n2)
 
 abbrev I1 : tie.InvT-loop
 I1 bounds row lead limit f1 f2 f3 f4 r0 r1 r2 r3 r4 left₀ at a0 kept1 kept2₀ kept3₀ kept4₀ v0 a1 k1₀ n1₀ left′ kept2 kept3 kept4 k1 n1 =
-    Walked (boxOf bounds at (f1 ∷ f2 ∷ f3 ∷ f4 ∷ [])) (rangeOf r1) (from2 r2 r3 r4) (In a1) (In k1) (candidateOf n1)
-    × Keeps (boxOf bounds at (f2 ∷ f3 ∷ f4 ∷ [])) (from2 r2 r3 r4) kept2
-    × Keeps (boxOf bounds at (f3 ∷ f4 ∷ [])) (from3 r3 r4) kept3
-    × Keeps (boxOf bounds at (f4 ∷ [])) (from4 r4) kept4
+    Walked (boxIn bounds at (f1 ∷ f2 ∷ f3 ∷ f4 ∷ [])) (rangeOf r1) (from2 r2 r3 r4) (In a1) (In k1) (nextOf n1)
+    × Keeps (boxIn bounds at (f2 ∷ f3 ∷ f4 ∷ [])) (from2 r2 r3 r4) kept2
+    × Keeps (boxIn bounds at (f3 ∷ f4 ∷ [])) (from3 r3 r4) kept3
+    × Keeps (boxIn bounds at (f4 ∷ [])) (from4 r4) kept4
     × (limit ≡ 0 → left′ ≡ 0)
 
 abbrev m1 : tie.MeasureT-loop
-m1 bounds row lead limit f1 f2 f3 f4 r0 r1 r2 r3 r4 left₀ at a0 kept1 kept2₀ kept3₀ kept4₀ v0 a1 k1₀ n1₀ left′ kept2 kept3 kept4 k1 n1 = left (value (r1 .high)) (candidateOf n1)
+m1 bounds row lead limit f1 f2 f3 f4 r0 r1 r2 r3 r4 left₀ at a0 kept1 kept2₀ kept3₀ kept4₀ v0 a1 k1₀ n1₀ left′ kept2 kept3 kept4 k1 n1 =
+    left (value (r1 .high)) (nextOf n1)
 
 abbrev I0 : tie.InvT-search
 I0 bounds row lead limit f1 f2 f3 f4 r0 r1 r2 r3 r4 left₀ at a0 kept1₀ kept2₀ kept3₀ kept4₀ n0₀ left′ kept1 kept2 kept3 kept4 n0 =
-    Walked (boxOf bounds at (lead ∷ f1 ∷ f2 ∷ f3 ∷ f4 ∷ [])) (rangeOf r0) (from1 r1 r2 r3 r4) (In a0) (In a0) (candidateOf n0)
-    × Keeps (boxOf bounds at (f1 ∷ f2 ∷ f3 ∷ f4 ∷ [])) (from1 r1 r2 r3 r4) kept1
-    × Keeps (boxOf bounds at (f2 ∷ f3 ∷ f4 ∷ [])) (from2 r2 r3 r4) kept2
-    × Keeps (boxOf bounds at (f3 ∷ f4 ∷ [])) (from3 r3 r4) kept3
-    × Keeps (boxOf bounds at (f4 ∷ [])) (from4 r4) kept4
+    Walked (boxIn bounds at (lead ∷ f1 ∷ f2 ∷ f3 ∷ f4 ∷ [])) (rangeOf r0) (from1 r1 r2 r3 r4) (In a0) (In a0) (nextOf n0)
+    × Keeps (boxIn bounds at (f1 ∷ f2 ∷ f3 ∷ f4 ∷ [])) (from1 r1 r2 r3 r4) kept1
+    × Keeps (boxIn bounds at (f2 ∷ f3 ∷ f4 ∷ [])) (from2 r2 r3 r4) kept2
+    × Keeps (boxIn bounds at (f3 ∷ f4 ∷ [])) (from3 r3 r4) kept3
+    × Keeps (boxIn bounds at (f4 ∷ [])) (from4 r4) kept4
     × (limit ≡ 0 → left′ ≡ 0)
 
 abbrev m0 : tie.MeasureT-search
-m0 bounds row lead limit f1 f2 f3 f4 r0 r1 r2 r3 r4 left₀ at a0 kept1₀ kept2₀ kept3₀ kept4₀ n0₀ left′ kept1 kept2 kept3 kept4 n0 = left (value (r0 .high)) (candidateOf n0)
+m0 bounds row lead limit f1 f2 f3 f4 r0 r1 r2 r3 r4 left₀ at a0 kept1₀ kept2₀ kept3₀ kept4₀ n0₀ left′ kept1 kept2 kept3 kept4 n0 =
+    left (value (r0 .high)) (nextOf n0)
 
 -- ---- places: each loop's head, where the boxes that hold a field's value are known, and where a field has no candidate left
 
@@ -438,7 +442,7 @@ found-at c =
     (level-found (B r) (A r) (F2 r) (Fs3 r) (R2 r) (S3 r) _ _ (stands2 h2)
     (level-found (B r) (A r) (F3 r) (Fs4 r) (R3 r) (S4 r) _ _ (stands3 h3)
     (level-found (B r) (A r) (F4 r) [] (R4 r) [] _ _ (stands4 h4)
-    (last-found (boxOf (B r) (A r) []) (a5 h4) (c .if2 .taken))))))))
+    (last-found (boxIn (B r) (A r) []) (a5 h4) (c .if2 .taken))))))))
 
 none-at : tie.Need-returns I4 m4 I3 m3 I2 m2 I1 m1 I0 m0
 none-at c =
@@ -454,7 +458,8 @@ starts0 : tie.Need-search-holds I4 m4 I3 m3 I2 m2 I1 m1 I0 m0
 starts0 c =
     let r = c .before .before .before in
     let a = In (c .before .first .result) in (
-      subst (Walked (boxOf (B r) (A r) (fieldsFrom (F0 r))) (R0 r) (S1 r) a a) (sym (c .opening .ensures)) (walked-start (boxOf (B r) (A r) (fieldsFrom (F0 r))) (R0 r) (S1 r) 0 (λ k i. i) (inl refl)),
+      subst (Walked (boxIn (B r) (A r) (fieldsFrom (F0 r))) (R0 r) (S1 r) a a) (sym (c .opening .ensures))
+          (walked-start (boxIn (B r) (A r) (fieldsFrom (F0 r))) (R0 r) (S1 r) 0 (λ k i. i) (inl refl)),
       keeps-none _ _,
       keeps-none _ _,
       keeps-none _ _,
