@@ -53,5 +53,6 @@ pub record AnswersStand (text more : List ℕ) (added : List Row) (t u : Table) 
 
 -- "for every accepted text and every run of row lines that may follow it in an accepted text"
 abbrev pub AddedRows : Type 0
-AddedRows = (text more : List ℕ) (added : List Row) (t u : Table) → parse text ≡ returned (tableRead t) → RowRun more added → parse (text ++ more) ≡ returned (tableRead u)
+AddedRows = (text more : List ℕ) (added : List Row) (t u : Table) → parse text ≡ returned (tableRead t) → RowRun more added
+    → parse (text ++ more) ≡ returned (tableRead u)
     → AnswersStand text more added t u

@@ -38,7 +38,8 @@ pub record JoinedRows (text : List ℕ) (t : Table) (i j : ℕ) : Type 0 where
   pub written : (out : List ℕ) → length (joinedLine i j t) ≤ length out
       → Only (JoinAnswers (parse text) i j out) (Count (length (joinedLine i j t)))
       × (joinWritten (parse text) i j out ≡ joinedLine i j t ++ drop (length (joinedLine i j t)) out)
-  pub short : (out : List ℕ) → length out < length (joinedLine i j t) → Only (JoinAnswers (parse text) i j out) (Refused 8 0) × (joinWritten (parse text) i j out ≡ out)
+  pub short : (out : List ℕ) → length out < length (joinedLine i j t)
+      → Only (JoinAnswers (parse text) i j out) (Refused 8 0) × (joinWritten (parse text) i j out ≡ out)
   -- the line says the joined row, "in capitals"
   pub line : isLine (joinedLine i j t) ≡ true
   pub says : frameOf (bytesOf (joinedLine i j t)) ≡ aRow (joinedRow i j t)
@@ -79,4 +80,5 @@ pub record JoinPromise (text : List ℕ) (t : Table) : Type 0 where
 
 -- "Joining is commutative", in answer and bytes, of any text, any two numbers and any output. (A refused text's own number and line: `RefusedText`.)
 abbrev pub Commutes : List ℕ → (i j : ℕ) → List ℕ → Type 0
-Commutes text i j out = SameAnswers (JoinAnswers (parse text) i j out) (JoinAnswers (parse text) j i out) × (joinWritten (parse text) i j out ≡ joinWritten (parse text) j i out)
+Commutes text i j out =
+    SameAnswers (JoinAnswers (parse text) i j out) (JoinAnswers (parse text) j i out) × (joinWritten (parse text) i j out ≡ joinWritten (parse text) j i out)

@@ -66,7 +66,8 @@ module _ (r : Parsed) where
   pub record ListPromise : Type 0 where
     -- given space, List writes the entries and returns their count
     pub written : (out : List ℕ) → 3 * length (entries t) ≤ length out
-        → Only (ListAnswers (returned r) out) (Count (length (entries t))) × (listWritten (returned r) out ≡ bytes (entries t) ++ drop (3 * length (entries t)) out)
+        → Only (ListAnswers (returned r) out) (Count (length (entries t)))
+        × (listWritten (returned r) out ≡ bytes (entries t) ++ drop (3 * length (entries t)) out)
     -- "three bytes an entry (first row, kind, second number)", with filter numbers in those of filters
     pub three : (bytes [] ≡ []) × ((i kind j : ℕ) (l : List Entry) → bytes (entry i kind j ∷ l) ≡ i ∷ kind ∷ j ∷ bytes l)
     -- "List's entries are exactly the table's anomalies of the twenty kinds, each once, in document 01's order", those of filters "after all row entries,

@@ -34,7 +34,8 @@ pub record MeshOfRow (r : Parsed) (i : ℕ) : Type 0 where
   pub dead : MeshAnswers (returned r) i DeadCase ↔ ((p : Packet) → Examined (r .table) i p → Unclaimed (r .table) i p → ⊥)
   pub packet : (p : PacketStruct)
       → MeshAnswers (returned r) i (PacketCase p)
-      ↔ (Examined (r .table) i (packetOf p) × Unclaimed (r .table) i (packetOf p) × ((q : Packet) → Examined (r .table) i q → Unclaimed (r .table) i q → packetOf p ≤ₚ q))
+      ↔ (Examined (r .table) i (packetOf p) × Unclaimed (r .table) i (packetOf p)
+      × ((q : Packet) → Examined (r .table) i q → Unclaimed (r .table) i q → packetOf p ≤ₚ q))
 
 pub record MeshPromise : Type 0 where
   -- "Its verdict on dead rows and its least unclaimed packet equal Witness's for every accepted text and row .. with the same refusals": whatever the text

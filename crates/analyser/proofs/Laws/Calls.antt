@@ -22,7 +22,7 @@ use Rattle.reader.specs.Lines.{linesOf}
 use Rattle.reader.specs.States.{Parsed, tableRead, parse}
 use Rattle.reader.proofs.Laws.Rows.{RowLine, accepted-lines, accepted-row}
 use Rattle.verdicts.specs.Verdicts.{verdictOn}
-use Rattle.calls.specs.Rows.{hasRow}
+use Rattle.calls.specs.Rows.{hasRow, onRow}
 use Rattle.calls.proofs.Laws.Texts.{row-answered}
 use Rattle.analyser.specs.Calls.{hasEntity, linePart, witnessOf, RowOrNobody, winningRow, nobodyWins, outcomeOf, winnerOf}
 
@@ -41,6 +41,10 @@ module _ (text : List ℕ) (t : Table) (e : parse text ≡ returned (tableRead t
   line-row = rw line-written (accepted-row text t e k h)
 
 -- ---- Witness and Winner
+
+pub witness-on-row : (x : Answer Parsed) (k : ℕ) → witnessOf x k ≡ onRow verdictOn x k
+unfolding witnessOf
+witness-on-row x k = refl
 
 module _ (x : Answer Parsed) (t : Table) (e : x ≡ returned (tableRead t)) (k : ℕ) where
   pub witness-verdict : k < length (t .rows) → witnessOf x k ≡ returned (verdictOn t k)

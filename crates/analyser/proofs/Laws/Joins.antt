@@ -1,13 +1,13 @@
 -- The call Join on an accepted text: what it does where a row is not there, where the two can't be joined, and where they can.
 -- Assumes nothing.
-use Prim.Native.Nat.{ℕ, _<_}
+use Prim.Native.Nat.{ℕ, _≤_, _<_}
 use native.Mathlib.Decide.{decLt}
 use native.Mathlib.Omega.{arith}
 use borrow.Author.Tests.{lt-ltb, le-ltb}
 use mathlib.Core.Path.{_≡_, refl, ap}
 use mathlib.Core.Logic.{inl, inr}
-use mathlib.Core.List.{List, [], _∷_}
-use lib.ListN.{length}
+use mathlib.Core.List.{List, [], _∷_, _++_}
+use lib.ListN.{length, drop}
 use Rattle.base.specs.Outputs.{Writes}
 use Rattle.base.specs.Answers.{Answer, returned, refusedBy, told, given, wrote}
 use Rattle.base.specs.declared.Written.{Written}
@@ -19,7 +19,7 @@ use Rattle.joining.proofs.Laws.Joining.{joinable-decides}
 use Rattle.reader.specs.States.{Parsed, tableRead}
 use Rattle.analyser.specs.Calls.{hasRoom, joinedLine, joinConditions, joinOf, joinWritten}
 use Rattle.analyser.specs.Views.{roomAnswer}
-use Rattle.analyser.proofs.Laws.Outputs.{call-broken, call-asked, call-writes}
+use Rattle.analyser.proofs.Laws.Outputs.{call-broken, call-asked, call-writes, call-short, call-whole}
 
 -- What the call answers, and what it leaves in the output.
 abbrev pub Does : Answer Parsed → (i j : ℕ) → List ℕ → Answer ℕ → List ℕ → Type 0
@@ -59,6 +59,15 @@ module _ (x : Answer Parsed) (t : Table) (e : x ≡ returned (tableRead t)) (i j
       join-asked =
           let a = call-asked (joinConditions i j) (λ l. l) length (joinedLine i j) out x t e join-kept in
           (ap (told length) a, ap (λ y. wrote (λ l. l) y out) a)
+
+      pub join-short : length out < length (joinedLine i j t) → Does x i j out (refusedBy 8 0) out
+      unfolding joinOf joinWritten
+      join-short l = call-short (joinConditions i j) (λ l. l) length (joinedLine i j) out x t e join-kept l
+
+      pub join-whole : length (joinedLine i j t) ≤ length out
+          → Does x i j out (returned (length (joinedLine i j t))) (joinedLine i j t ++ drop (length (joinedLine i j t)) out)
+      unfolding joinOf joinWritten
+      join-whole l = call-whole (joinConditions i j) (λ l. l) length (joinedLine i j) out x t e join-kept l
 
       -- The line is written where there is room.
       pub join-writes : (after : List ℕ) (r : Written) → Writes (joinedLine i j t) out after r

@@ -3,6 +3,7 @@
 --   call-broken: what such a call does, of a text that is accepted, where another condition is broken
 --   call-asked, call-writes: where none is, and the result is written if it fits
 --   call-short, call-whole: its answer and output, for an output too short, and for one with room
+--   list-short, list-whole, strike-short, strike-whole: the same of List and Strike
 --   list-told, list-refused, strike-told, strike-refused: why List and Strike answer as they do
 --   list-wrote, strike-wrote, strike-left: what they leave in the output, where they tell a number, and where they refuse
 --   count-fits: as many entries as are counted have room
@@ -97,6 +98,16 @@ module _ (x : Answer Parsed) (out : List ℕ) where
   abbrev pub listConditions : Parsed → List Check
   listConditions r = hasRoom (bytes (entriesRead r)) out ∷ []
 
+  module _ (t : Table) (e : x ≡ returned (tableRead t)) where
+    pub list-short : length out < length (bytes (entries t)) → (listOf x out ≡ refusedBy shortOutput 0) × (listWritten x out ≡ out)
+    unfolding listOf listWritten
+    list-short h = call-short noConditions bytes length entries out x t e tt h
+
+    pub list-whole : length (bytes (entries t)) ≤ length out
+        → (listOf x out ≡ returned (length (entries t))) × (listWritten x out ≡ bytes (entries t) ++ drop (length (bytes (entries t))) out)
+    unfolding listOf listWritten
+    list-whole h = call-whole noConditions bytes length entries out x t e tt h
+
   pub list-told : (n : ℕ) → listOf x out ≡ returned n → Told listConditions entriesRead length x n
   unfolding listOf
   list-told n e = told-why listConditions entriesRead length x n e
@@ -125,6 +136,17 @@ module _ (text : List ℕ) (x : Answer Parsed) (out : List ℕ) where
 
   abbrev pub strikeConditions : Parsed → List Check
   strikeConditions r = hasRoom (struckRead r) out ∷ []
+
+  module _ (t : Table) (e : x ≡ returned (tableRead t)) where
+    pub strike-short : length out < length (struckText text t) → (strikeOf text x out ≡ refusedBy shortOutput 0) × (strikeWritten text x out ≡ out)
+    unfolding strikeOf strikeWritten
+    strike-short h = call-short noConditions (λ l. l) length (struckText text) out x t e tt h
+
+    pub strike-whole : length (struckText text t) ≤ length out
+        → (strikeOf text x out ≡ returned (length (struckText text t)))
+        × (strikeWritten text x out ≡ struckText text t ++ drop (length (struckText text t)) out)
+    unfolding strikeOf strikeWritten
+    strike-whole h = call-whole noConditions (λ l. l) length (struckText text) out x t e tt h
 
   pub strike-told : (n : ℕ) → strikeOf text x out ≡ returned n → Told strikeConditions struckRead length x n
   unfolding strikeOf

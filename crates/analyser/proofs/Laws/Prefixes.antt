@@ -6,8 +6,8 @@ use native.Mathlib.Omega.{arith}
 use borrow.Author.Tests.{lt-ltb, le-ltb, le-leb, lt-leb}
 use mathlib.Core.Path.{_≡_, refl}
 use mathlib.Core.Logic.{inl, inr}
-use mathlib.Core.List.{List, [], _∷_}
-use lib.ListN.{length}
+use mathlib.Core.List.{List, [], _∷_, _++_}
+use lib.ListN.{length, drop}
 use Rattle.base.specs.Outputs.{WritesCounted}
 use Rattle.base.specs.Answers.{Answer, returned, refusedBy}
 use Rattle.base.specs.declared.Written.{Written}
@@ -19,7 +19,7 @@ use Rattle.prefixes.specs.Sides.{sideOf}
 use Rattle.reader.specs.States.{Parsed, tableRead}
 use Rattle.analyser.specs.Calls.{addressBytes, rowPrefixes, prefixConditions, prefixesOf, prefixesWritten}
 use Rattle.analyser.specs.Views.{roomAnswer}
-use Rattle.analyser.proofs.Laws.Outputs.{call-broken, call-writes}
+use Rattle.analyser.proofs.Laws.Outputs.{call-broken, call-writes, call-short, call-whole}
 
 -- The highest address of a side, of a selector that keeps its rules.
 pub side-fits : (s : Selector) (side : ℕ) → side ≤ 1 → SelectorRule s → sideOf side s .high < 2 ^ 32
@@ -55,6 +55,15 @@ module _ (x : Answer Parsed) (t : Table) (e : x ≡ returned (tableRead t)) (k s
     module _ (s : side ≤ 1) where
       pub prefixes-kept : Kept (prefixConditions k side t)
       prefixes-kept = (lt-ltb k (length (t .rows)) h, (le-leb side 1 s, tt))
+
+      pub prefixes-short : length out < length (prefixBytes addressBytes (rowPrefixes k side t)) → Does x k side out (refusedBy 8 0) out
+      unfolding prefixesOf prefixesWritten
+      prefixes-short l = call-short (prefixConditions k side) (prefixBytes addressBytes) length (rowPrefixes k side) out x t e prefixes-kept l
+
+      pub prefixes-whole : let bs = prefixBytes addressBytes (rowPrefixes k side t) in length bs ≤ length out
+          → Does x k side out (returned (length (rowPrefixes k side t))) (bs ++ drop (length bs) out)
+      unfolding prefixesOf prefixesWritten
+      prefixes-whole l = call-whole (prefixConditions k side) (prefixBytes addressBytes) length (rowPrefixes k side) out x t e prefixes-kept l
 
       -- The prefixes are written where there is room.
       pub prefixes-writes : (after : List ℕ) (r : Written)

@@ -5,7 +5,6 @@ use native.Mathlib.Omega.{arith}
 use mathlib.Core.Path.{_≡_, refl, sym, _∙_}
 use mathlib.Core.List.{List}
 use lib.ListN.{length}
-use borrow.Author.Tests.{le-ltb}
 use Rattle.base.specs.Answers.{Answer, returned, refusedBy}
 use Rattle.policy.specs.Wellformed.{Wellformed}
 use Rattle.policy.specs.Views.{packetOf}
@@ -13,14 +12,12 @@ use Rattle.relations.proofs.Laws.Tables.{table-tree}
 use Rattle.reader.specs.States.{Parsed}
 use Rattle.kinds.specs.Entries.{entries}
 use Rattle.covers.specs.Least.{SearchResult}
-use Rattle.listing.specs.Bytes.{bytes}
 use Rattle.listing.proofs.Laws.Puts.{length-bytes}
-use Rattle.striking.specs.Texts.{struckText}
 use Rattle.calls.specs.Views.{witnessAnswer}
 use Rattle.calls.specs.declared.Witness.the-variants.{Refused as WitnessRefused}
 use Rattle.calls.proofs.Laws.Cases.{witness-refused}
-use Rattle.mesh_call.specs.Calls.{meshOf}
-use Rattle.analyser.specs.Calls.{noConditions, RowOrNobody, checkOf, linePart, witnessOf, winnerOf, listOf, listWritten, strikeOf, strikeWritten, joinOf, joinWritten, prefixesOf, prefixesWritten}
+use Rattle.mesh_call.proofs.Laws.Calls.{mesh-refused-text, mesh-missing}
+use Rattle.analyser.specs.Calls.{RowOrNobody}
 use Rattle.analyser.specs.Views.{checkAnswer, winnerAnswer, countAnswer}
 use Rattle.analyser.specs.Contracts.{Only, SameAnswers}
 use Rattle.analyser.specs.declared.Checked.the-variants.{Counts, Refused as CheckRefused}
@@ -28,7 +25,11 @@ use Rattle.analyser.specs.declared.Winner.the-variants.{Refused as WinnerRefuse
 use Rattle.analyser.specs.declared.Counted.the-variants.{Count, Refused as CountRefused}
 use Rattle.analyser.proofs.Laws.Calls.{winner-no-row, winner-no-entity}
 use Rattle.analyser.proofs.Laws.Cases.{only, check-refused, check-counts, winner-refused, count-refused, count-told}
-use Rattle.analyser.proofs.Laws.Outputs.{call-short}
+use Rattle.analyser.proofs.Laws.Refused.{check-refused-text, line-refused-text, witness-refused-text, winner-refused-text, list-refused-text}
+use Rattle.analyser.proofs.Laws.Refused.{strike-refused-text, check-accepted, line-missing, witness-missing}
+use Rattle.analyser.proofs.Laws.Outputs.{list-short, strike-short}
+use Rattle.analyser.proofs.Laws.Joins.{join-refused}
+use Rattle.analyser.proofs.Laws.Prefixes.{prefixes-refused}
 use Rattle.promises.specs.AnswerPromises.{RefusedText, AcceptedText, PacketFields}
 
 -- ---- a call whose answer is known admits one case alone
@@ -56,41 +57,39 @@ same-answers view e r = (λ a. a ∙ e, λ a. a ∙ sym e)
 -- ---- refused and accepted texts
 
 pub refused-text : (number at : ℕ) → RefusedText number at
-unfolding checkOf linePart witnessOf meshOf winnerOf listOf listWritten strikeOf strikeWritten joinOf joinWritten prefixesOf prefixesWritten
 refused-text number at =
     record {
       every = λ conditions value. refl;
-      check = only checkAnswer (CheckRefused number at) refl refl (check-refused number at);
-      line = λ text k. refl;
-      witness = λ k. refused-witness refl;
-      mesh = λ k. refused-witness refl;
-      winner = λ k p. refused-winner refl;
-      list = λ out. refused-count (refl, refl);
-      strike = λ text out. refused-count (refl, refl);
-      join = λ i j out. refused-count (refl, refl);
-      prefixes = λ k side out. refused-count (refl, refl);
+      check = only checkAnswer (CheckRefused number at) (check-refused-text number at) refl (check-refused number at);
+      line = line-refused-text number at;
+      witness = λ k. refused-witness (witness-refused-text number at k);
+      mesh = λ k. refused-witness (mesh-refused-text number at k);
+      winner = λ k p. refused-winner (winner-refused-text number at k (p .source) (p .destination) (packetOf (p .packet)));
+      list = λ out. refused-count (list-refused-text number at out);
+      strike = λ text out. refused-count (strike-refused-text number at text out);
+      join = λ i j out. refused-count (join-refused (refusedBy number at) i j out number at refl);
+      prefixes = λ k side out. refused-count (prefixes-refused (refusedBy number at) k side out number at refl);
     }
 
 pub accepted-text : (r : Parsed) → Wellformed (r .table) → AcceptedText r
-unfolding checkOf linePart witnessOf meshOf listOf listWritten strikeOf strikeWritten
 accepted-text r well =
     let t = r .table in
     let n = length (t .entities) in
     let m = length (t .filters) in
     let k = length (t .rows) in
     record {
-      check = only checkAnswer (Counts n m k) {y = checkAnswer (Counts n m k)} refl refl (check-counts n m k);
+      check = only checkAnswer (Counts n m k) (check-accepted r) refl (check-counts n m k);
       parents = table-tree t well;
       no-row = λ k h. (
-        λ text. rw (le-ltb _ _ h),
-        refused-witness (rw (le-ltb _ _ h)),
-        refused-witness (rw (le-ltb _ _ h)),
+        line-missing r k h,
+        refused-witness (witness-missing r k h),
+        refused-witness (mesh-missing r k h),
         λ p. refused-winner (winner-no-row (returned r) t refl k (p .source) (p .destination) (packetOf (p .packet)) h),
       );
       no-entity = λ k p h n. refused-winner (winner-no-entity (returned r) t refl k (p .source) (p .destination) (packetOf (p .packet)) h n);
       short-list = λ out h.
-          refused-count (call-short noConditions bytes length entries out (returned r) t refl tt (omega (arith, length-bytes (entries t))));
-      short-strike = λ text out h. refused-count (call-short noConditions (λ l. l) length (struckText text) out (returned r) t refl tt h);
+          refused-count (list-short (returned r) out t refl (omega (arith, length-bytes (entries t))));
+      short-strike = λ text out h. refused-count (strike-short text (returned r) out t refl h);
     }
 
 pub packet-fields : PacketFields

@@ -29,9 +29,9 @@ use Rattle.kinds.specs.Entries.{entries}
 use Rattle.kinds.specs.Examples.{tableT}
 use Rattle.kinds.proofs.Laws.Examples.{printed}
 use Rattle.listing.specs.Bytes.{bytes}
-use Rattle.analyser.specs.Calls.{noConditions, checkOf, witnessOf, listOf, listWritten}
+use Rattle.analyser.specs.Calls.{checkOf, witnessOf, listOf, listWritten}
 use Rattle.promises.specs.Examples.{T, listOfT, items}
-use Rattle.analyser.proofs.Laws.Outputs.{call-short, call-whole}
+use Rattle.analyser.proofs.Laws.Outputs.{list-short, list-whole}
 
 -- ---- List in 18 and in 17 bytes
 
@@ -45,10 +45,9 @@ unfolding bytes
 T-bytes = ap bytes printed
 
 fits-18 : (out : List ℕ) → length out ≡ 18 → (listOf (parse T) out ≡ returned 6) × (listWritten (parse T) out ≡ listOfT)
-unfolding listOf listWritten
 fits-18 out h =
     let e = ap length T-bytes in
-    let w = call-whole noConditions bytes length entries out (parse T) tableT T-parsed tt (omega arith) in (
+    let w = list-whole (parse T) out tableT T-parsed (omega arith) in (
       w .0 ∙ ap (λ es. returned (length es)) printed,
       w .1
           ∙ ap (λ (b : List ℕ). b ++ drop (length b) out) T-bytes
@@ -56,8 +55,7 @@ fits-18 out h =
     )
 
 short-17 : (out : List ℕ) → length out ≡ 17 → (listOf (parse T) out ≡ refusedBy 8 0) × (listWritten (parse T) out ≡ out)
-unfolding listOf listWritten
-short-17 out h = let e = ap length T-bytes in call-short noConditions bytes length entries out (parse T) tableT T-parsed tt (omega arith)
+short-17 out h = let e = ap length T-bytes in list-short (parse T) out tableT T-parsed (omega arith)
 
 -- ---- all of them
 

@@ -25,14 +25,13 @@ use Rattle.reader.proofs.Laws.Wellformed.{accepted-wellformed}
 use Rattle.reader.proofs.Laws.Rows.{RowLine}
 use Rattle.reader.proofs.Laws.Texts.{accepted-text-more-rows}
 use Rattle.reader.proofs.Laws.Written.{row-written, row-capitals, row-size, row-own}
-use Rattle.analyser.specs.Calls.{hasRoom, linePart, joinedRow, joinedLine, joinConditions, joinOf, joinWritten}
+use Rattle.analyser.specs.Calls.{hasRoom, linePart, joinedRow, joinedLine, joinOf, joinWritten}
 use Rattle.analyser.specs.Views.{countAnswer}
 use Rattle.promises.specs.JoinPromises.{UpperBounds, JoinedRows, JoinPromise, Commutes}
 use Rattle.promises.proofs.Laws.Devices.{one-device}
 use Rattle.promises.proofs.Laws.AnswerPromises.{told-count, refused-count, same-answers}
 use Rattle.analyser.proofs.Laws.Calls.{line-row}
-use Rattle.analyser.proofs.Laws.Outputs.{call-short, call-whole}
-use Rattle.analyser.proofs.Laws.Joins.{Does, join-refused, join-no-row, join-differ, join-kept, join-asked}
+use Rattle.analyser.proofs.Laws.Joins.{Does, join-refused, join-no-row, join-differ, join-asked, join-short, join-whole}
 
 pub upper-bounds : UpperBounds
 upper-bounds = record { lowest = λ up tree e f. lowest-least up tree f e; coefficients = larger-least; box = hull-least }
@@ -50,7 +49,6 @@ module _ (text : List ℕ) (t : Table) (e : parse text ≡ returned (tableRead t
     rule = joined-kept t well (rowAt t i) (rowAt t j) (well .row i h) (well .row j k) c
 
     joined-rows : JoinedRows text t i j
-    unfolding joinOf joinWritten
     joined-rows =
         let a = well .row i h in
         let b = well .row j k in
@@ -59,9 +57,9 @@ module _ (text : List ℕ) (t : Table) (e : parse text ≡ returned (tableRead t
         let line : RowLine t (joinedLine i j t) (joinedRow i j t) = row-written t well (joinedRow i j t) rule in
         record {
           written = λ out l.
-              told-count (call-whole (joinConditions i j) (λ l. l) length (joinedLine i j) out (parse text) t e (join-kept (parse text) t e i j out h k c) l);
+              told-count (join-whole (parse text) t e i j out h k c l);
           short = λ out l.
-              refused-count (call-short (joinConditions i j) (λ l. l) length (joinedLine i j) out (parse text) t e (join-kept (parse text) t e i j out h k c) l);
+              refused-count (join-short (parse text) t e i j out h k c l);
           line = line .line;
           says = line .frame;
           capitals = row-capitals t well (joinedRow i j t) rule;

@@ -20,8 +20,8 @@ use Rattle.kinds.proofs.Laws.Ascending.{entries-ascend}
 use Rattle.kinds.proofs.Laws.Few.{entries-few}
 use Rattle.listing.specs.Bytes.{bytes}
 use Rattle.listing.proofs.Laws.Puts.{bytes-none, bytes-more, length-bytes}
-use Rattle.analyser.specs.Calls.{noConditions, listOf, listWritten, packed}
-use Rattle.analyser.proofs.Laws.Outputs.{no-room, call-whole, list-told, list-refused}
+use Rattle.analyser.specs.Calls.{packed}
+use Rattle.analyser.proofs.Laws.Outputs.{no-room, list-whole, list-told, list-refused}
 use Rattle.promises.specs.ListPromises.{KindNumbers, ListPromise, PackedPromise}
 use Rattle.promises.proofs.Laws.AnswerPromises.{told-count}
 
@@ -71,13 +71,12 @@ module _ (t : Table) where
       }
 
 pub list-promise : (r : Parsed) → Wellformed (r .table) → ListPromise r
-unfolding listOf listWritten
 list-promise r well =
     let t = r .table in
     let long = length-bytes (entries t) in
     record {
       written = λ out h.
-          let w = call-whole noConditions bytes length entries out (returned r) t refl tt (omega arith) in
+          let w = list-whole (returned r) out t refl (omega arith) in
           told-count (w .0, w .1 ∙ ap (λ (n : ℕ). bytes (entries t) ++ drop n out) long);
       three = (bytes-none, λ i kind j l. bytes-more (entry i kind j) l);
       exact = entries-exact t well;

@@ -30,8 +30,9 @@ use Rattle.mesh.proofs.Laws.Cells.{cells-laws}
 use Rattle.calls.specs.Rows.{onRow}
 use Rattle.calls.specs.Views.{witnessAnswer}
 use Rattle.mesh_call.specs.Calls.{meshOf}
-use Rattle.mesh_call.proofs.Laws.Calls.{mesh-verdict}
+use Rattle.mesh_call.proofs.Laws.Calls.{mesh-verdict, mesh-on-row}
 use Rattle.analyser.specs.Calls.{witnessOf}
+use Rattle.analyser.proofs.Laws.Calls.{witness-on-row}
 use Rattle.promises.specs.MeshPromises.{MeshOfRow, MeshPromise}
 use Rattle.promises.proofs.Laws.AnswerPromises.{same-answers}
 
@@ -42,7 +43,8 @@ mesh-same t w i h =
     (cells-laws (rowAt t i .selector) (coverOn t i) (w .row i h .selector .ordered) (sized-cover t w i h) .right) (verdict-right t w i h)
 
 -- Two calls on a row that agree on each row of the text's table give one answer.
-row-alike : {A : Type 0} (u v : Table → ℕ → A) (x : Answer Parsed) (k : ℕ) → ((r : Parsed) → x ≡ returned r → k < length (r .table .rows) → u (r .table) k ≡ v (r .table) k)
+row-alike : {A : Type 0} (u v : Table → ℕ → A) (x : Answer Parsed) (k : ℕ)
+    → ((r : Parsed) → x ≡ returned r → k < length (r .table .rows) → u (r .table) k ≡ v (r .table) k)
     → onRow u x k ≡ onRow v x k
 row-alike u v (returned r) k f = there (ltb k (length (r .table .rows))) (λ b. f r refl (ltb-true k (length (r .table .rows)) b))
   where
@@ -53,8 +55,10 @@ row-alike u v (returned r) k f = there (ltb k (length (r .table .rows))) (λ b. 
 row-alike u v (refusedBy number line) k f = refl
 
 pub same-answer : (text : List ℕ) (k : ℕ) → meshOf (parse text) k ≡ witnessOf (parse text) k
-unfolding meshOf witnessOf
-same-answer text k = row-alike meshOn verdictOn (parse text) k (λ r e h. mesh-same (r .table) (accepted-wellformed text (r .table) e) k h)
+same-answer text k =
+    mesh-on-row (parse text) k
+    ∙ row-alike meshOn verdictOn (parse text) k (λ r e h. mesh-same (r .table) (accepted-wellformed text (r .table) e) k h)
+    ∙ sym (witness-on-row (parse text) k)
 
 -- An answer that is the first of the examined packets in no box: what it is to be none, and to be a packet.
 module _ (s : Selector) (bs : List Selector) where

@@ -17,9 +17,9 @@ use Rattle.base.proofs.Laws.Decides.{decides-and, decides-or, decides-eqb, deci
 use Rattle.base.proofs.Laws.Members.{among-decides}
 use Rattle.base.proofs.Laws.Firsts.{FirstBelow, first-or-none}
 use Rattle.relations.specs.Entities.{AtOrAbove}
-use Rattle.relations.specs.Selectors.{Holds, holds, exchange}
+use Rattle.relations.specs.Selectors.{inhabited, Holds, holds, exchange}
 use Rattle.relations.proofs.Laws.Entities.{above-same-root, root-above, root-top}
-use Rattle.relations.proofs.Laws.Selectors.{holds-decides, contains-antisym, exchange-holds, exchange-twice}
+use Rattle.relations.proofs.Laws.Selectors.{ordered-inhabited, inhabited-decides, inhabited-ordered, holds-decides, contains-antisym, exchange-holds, exchange-twice}
 use Rattle.relations.proofs.Laws.Tables.{table-tree}
 use Rattle.frames.specs.Kinds.{ofCap}
 use Rattle.reader.specs.Frames.{aFrame}
@@ -82,10 +82,10 @@ cyclic a xs b =
 
 -- It has no low above its high where the selector has none.
 exchange-ordered : (s : Selector) → Ordered s → Ordered (exchange s)
-unfolding exchange
-exchange-ordered [] o = tt
-exchange-ordered (r ∷ []) o = o
-exchange-ordered (r ∷ q ∷ s) o = (o .1 .0, (o .0, exchange-ordered s (o .1 .1)))
+exchange-ordered s o =
+    let p = ordered-inhabited s o in
+    inhabited-ordered (exchange s)
+    (decides-holds (inhabited (exchange s)) (inhabited-decides (exchange s)) (exchange (p .0), exchange-holds s (p .0) (p .1)))
 
 -- A selector is another exchanged exactly if it has just the other's packets exchanged.
 same-exchanged : (s q : Selector) → Ordered s → Ordered q → (q ≡ exchange s) ↔ ((p : Packet) → Holds s p ↔ Holds q (exchange p))

@@ -17,11 +17,10 @@ use Rattle.prefixes.proofs.Laws.Puts.{length-prefixBytes}
 use Rattle.prefixes.proofs.Laws.Prefixes.{prefix-block, prefixes-of, full-range, one-address}
 use Rattle.reader.specs.States.{tableRead, parse}
 use Rattle.reader.proofs.Laws.Wellformed.{accepted-wellformed}
-use Rattle.analyser.specs.Calls.{rowPrefixes, prefixConditions, prefixesOf, prefixesWritten}
+use Rattle.analyser.specs.Calls.{rowPrefixes}
 use Rattle.promises.specs.PrefixPromises.{RangePrefixes, PrefixForms, SidePrefixes, PrefixPromise}
 use Rattle.promises.proofs.Laws.AnswerPromises.{told-count, refused-count}
-use Rattle.analyser.proofs.Laws.Outputs.{call-short, call-whole}
-use Rattle.analyser.proofs.Laws.Prefixes.{side-fits, prefixes-no-row, prefixes-no-side, prefixes-kept}
+use Rattle.analyser.proofs.Laws.Prefixes.{side-fits, prefixes-no-row, prefixes-no-side, prefixes-short, prefixes-whole}
 
 pub range-prefixes : RangePrefixes
 range-prefixes =
@@ -50,7 +49,6 @@ prefix-forms =
 
 module _ (text : List ℕ) (t : Table) (e : parse text ≡ returned (tableRead t)) where
   side-prefixes : (k side : ℕ) → k < length (t .rows) → side ≤ 1 → SidePrefixes text t k side
-  unfolding prefixesOf prefixesWritten
   side-prefixes k side h s =
       let r = sideOf side (rowAt t k .selector) in
       let fits = side-fits (rowAt t k .selector) side s (accepted-wellformed text t e .row k h .selector) in
@@ -61,12 +59,9 @@ module _ (text : List ℕ) (t : Table) (e : parse text ≡ returned (tableRead t
         full = λ q. ap (prefixes 32) q ∙ full-range 32;
         single = λ a q. ap (prefixes 32) q ∙ one-address 32 a;
         written = λ out l.
-            let kept = prefixes-kept (parse text) t e k side out h s in
-            let w = call-whole (prefixConditions k side) (prefixBytes 4) length (rowPrefixes k side) out (parse text) t e kept (omega arith) in
+            let w = prefixes-whole (parse text) t e k side out h s (omega arith) in
             told-count (w .0, w .1 ∙ ap (λ (n : ℕ). prefixBytes 4 (rowPrefixes k side t) ++ drop n out) long);
-        short = λ out l.
-            let kept = prefixes-kept (parse text) t e k side out h s in
-            refused-count (call-short (prefixConditions k side) (prefixBytes 4) length (rowPrefixes k side) out (parse text) t e kept (omega arith));
+        short = λ out l. refused-count (prefixes-short (parse text) t e k side out h s (omega arith));
       }
 
   pub prefix-promise : PrefixPromise text t

@@ -24,7 +24,6 @@ use Rattle.verdicts.specs.Verdicts.{verdictOn}
 use Rattle.verdicts.proofs.Laws.Verdicts.{verdicts}
 use Rattle.kinds.proofs.Laws.Entries.{entries-exact}
 use Rattle.striking.specs.Striking.{kept, struck, SameWinner}
-use Rattle.striking.specs.Texts.{struckText}
 use Rattle.striking.proofs.Laws.Kept.{kept-rows, kept-exactly}
 use Rattle.striking.proofs.Laws.Struck.{struck-keeps}
 use Rattle.striking.proofs.Laws.Texts.{struck-parses}
@@ -33,14 +32,14 @@ use Rattle.calls.specs.Views.{witnessAnswer}
 use Rattle.calls.specs.declared.Witness.{Witness}
 use Rattle.calls.specs.declared.Witness.the-variants.{Packet as PacketCase}
 use Rattle.calls.proofs.Laws.Cases.{witness-dead, witness-packet}
-use Rattle.analyser.specs.Calls.{noConditions, outcomeOf, winnerOf, strikeOf, strikeWritten}
+use Rattle.analyser.specs.Calls.{outcomeOf, winnerOf}
 use Rattle.analyser.specs.Views.{winnerAnswer}
 use Rattle.analyser.specs.Contracts.{WitnessAnswers}
 use Rattle.analyser.specs.declared.Winner.{Winner}
 use Rattle.analyser.specs.declared.Winner.the-variants.{Row as RowCase, Nobody as NobodyCase}
 use Rattle.analyser.proofs.Laws.Calls.{witness-verdict, winner-no-entity, winner-found, winner-row, winner-none}
 use Rattle.analyser.proofs.Laws.Cases.{winner-a-row, winner-nobody as winner-nobody-case}
-use Rattle.analyser.proofs.Laws.Outputs.{call-whole}
+use Rattle.analyser.proofs.Laws.Outputs.{strike-whole}
 use Rattle.promises.specs.RowPromises.{WitnessPromise, StrikePromise, WinnerPromise}
 use Rattle.promises.proofs.Laws.AnswerPromises.{told-count}
 
@@ -92,13 +91,12 @@ kept-once t j k h l e =
     ]
 
 pub strike-promise : (text : List ℕ) (r : Parsed) → parse text ≡ returned r → StrikePromise r text
-unfolding strikeOf strikeWritten
 strike-promise text r e =
     let t = r .table in
     let well = accepted-wellformed text t e in
     let keeps = struck-keeps t well in
     record {
-      written = λ out h. told-count (call-whole noConditions (λ l. l) length (struckText text) out (returned r) t refl tt h);
+      written = λ out h. told-count (strike-whole text (returned r) out t refl h);
       shorter = struck-shorter text t e;
       taken = struck-parses text t e;
       alive = keeps .alive;
