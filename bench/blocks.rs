@@ -1,6 +1,6 @@
 //! The product's mesh of a row written once more in Rust, for the same pace in the same run, and to count the blocks that are examined.
 
-use crate::search::Bounds;
+use crate::search::{Bounds, Number};
 
 const FIELDS: usize = 5;
 /// How many intervals a field has at most: 63 boxes cut it in 126 places.
@@ -21,7 +21,7 @@ struct Mesh {
 }
 
 /// The least packet of the row that no box has, and how many blocks were examined. There are at most 63 boxes.
-pub fn mesh(row: &Bounds, boxes: &[Bounds]) -> (Option<[u64; FIELDS]>, u64) {
+pub fn mesh(row: &Bounds, boxes: &[Bounds]) -> (Option<[Number; FIELDS]>, u64) {
     let mut mesh = Mesh::new(row, boxes);
     let none = [mesh.counts[0], 0, 0, 0, 0];
     let cell = mesh.least([0; FIELDS], mesh.counts, none);
@@ -106,7 +106,7 @@ impl Mesh {
 }
 
 /// The boxes whose field has the value.
-fn holding(boxes: &[Bounds], field: usize, value: u64) -> u64 {
+fn holding(boxes: &[Bounds], field: usize, value: Number) -> u64 {
     boxes.iter().enumerate().fold(0, |set, (k, bounds)| {
         let (low, high) = bounds[field];
         set | u64::from((low <= value) & (value <= high)) << k
@@ -114,7 +114,7 @@ fn holding(boxes: &[Bounds], field: usize, value: u64) -> u64 {
 }
 
 /// The least value after this one, up to `high`, that is a low of a box or comes after a high.
-fn next_cut(boxes: &[Bounds], field: usize, value: u64, high: u64) -> Option<u64> {
+fn next_cut(boxes: &[Bounds], field: usize, value: Number, high: Number) -> Option<Number> {
     let cuts = boxes
         .iter()
         .flat_map(|bounds| [bounds[field].0, bounds[field].1 + 1]);
@@ -122,7 +122,7 @@ fn next_cut(boxes: &[Bounds], field: usize, value: u64, high: u64) -> Option<u64
 }
 
 /// The value that this interval of the row's field begins with.
-fn nth_cut(row: &Bounds, boxes: &[Bounds], field: usize, place: usize) -> u64 {
+fn nth_cut(row: &Bounds, boxes: &[Bounds], field: usize, place: usize) -> Number {
     let (low, high) = row[field];
     let next = |value, _| next_cut(boxes, field, value, high).unwrap_or(value);
     (0..place).fold(low, next)

@@ -5,6 +5,7 @@ use crate::clock::{in_turn, ms, ratio};
 use crate::dead;
 use crate::library::{Call, Text};
 use crate::measured::Measured;
+use crate::search::Number;
 use crate::table::Table;
 use crate::targets::Target;
 use crate::worst::boxes;
@@ -70,7 +71,7 @@ fn checked_blocks(table: &Table, row: usize) -> u64 {
     let (own, cover) = boxes(table, row);
     let (packet, blocks) = mesh(&own, &cover);
     let witness = dead::witness(table, row);
-    assert_eq!(packet, witness.map(|packet| packet.map(u64::from)));
+    assert_eq!(packet, witness.map(|packet| packet.map(Number::from)));
     blocks
 }
 

@@ -1,12 +1,14 @@
 //! The product's walks through the fields of a row written once more in Rust, for the same pace in the same run, and to count the
 //! values that are tried.
 
+/// A field's number, as wide as the product's.
+pub type Number = u128;
 /// Low and high of each field.
-pub type Bounds = [(u64, u64); FIELDS];
+pub type Bounds = [(Number, Number); FIELDS];
 
 const FIELDS: usize = 5;
 /// How many covers are kept for a field.
-const KEPT: usize = 32;
+const KEPT: usize = 16;
 /// The place in a walk of the field whose values are counted against the limit.
 const COUNTED: usize = 3;
 /// The limit of the first of the walks that begin with each field in turn, and the one from which on there is none.
@@ -33,12 +35,12 @@ struct Walk<'b> {
     /// The covers of values of the fields but the last, by their places in the walk, the one that served last first; 0 where there
     /// is none yet.
     kept: [[u64; KEPT]; FIELDS - 1],
-    packet: [u64; FIELDS],
+    packet: [Number; FIELDS],
     tried: u64,
 }
 
 /// The least packet of the row that no box has, and how many values were tried. There are at most 63 boxes.
-pub fn search(row: &Bounds, boxes: &[Bounds]) -> (Option<[u64; FIELDS]>, u64) {
+pub fn search(row: &Bounds, boxes: &[Bounds]) -> (Option<[Number; FIELDS]>, u64) {
     let mut walk = Walk::new(row, boxes, 0, None);
     let free = walk.covered() == Err(End::Free);
     (free.then_some(walk.packet), walk.tried)
@@ -91,11 +93,10 @@ impl<'b> Walk<'b> {
             }
             self.tried += 1;
             self.packet[field] = value;
-            let here = self.holding(field, value, held);
             let of_value = if place == FIELDS - 1 {
-                self.farthest(field, here)?
+                self.farthest(field, value, held)?
             } else {
-                self.cover(place, here)?
+                self.cover(place, self.holding(field, value, held))?
             };
             cover |= of_value;
             let reached = self.least_high(field, of_value);
@@ -117,23 +118,27 @@ impl<'b> Walk<'b> {
     }
 
     /// The ones whose field holds the value.
-    fn holding(&self, field: usize, value: u64, of: u64) -> u64 {
+    fn holding(&self, field: usize, value: Number, of: u64) -> u64 {
         bits(of).fold(0, |held, k| {
             let (low, high) = self.boxes[k][field];
             held | u64::from((low <= value) & (value <= high)) << k
         })
     }
 
-    /// The first of those with the greatest high in the field. Where there are none the packet is free.
-    fn farthest(&self, field: usize, of: u64) -> Result<u64, End> {
-        let first = bits(of).reduce(|best, k| {
-            if self.boxes[best][field].1 < self.boxes[k][field].1 {
-                k
-            } else {
-                best
+    /// Of those whose field holds the value one with the greatest high, the last. Where there are none the packet is free.
+    fn farthest(&self, field: usize, value: Number, of: u64) -> Result<u64, End> {
+        let (mut best, mut top) = (0, value);
+        for k in bits(of) {
+            let (low, high) = self.boxes[k][field];
+            if (low <= value) & (top <= high) {
+                (best, top) = (1 << k, high);
             }
-        });
-        first.map(|k| 1 << k).ok_or(End::Free)
+        }
+        if best == 0 {
+            Err(End::Free)
+        } else {
+            Ok(best)
+        }
     }
 
     /// A cover of a value of the field at this place that these boxes hold: one that is kept, or what walking the next field gives. It
@@ -150,8 +155,8 @@ impl<'b> Walk<'b> {
     }
 
     /// The least high of these in the field.
-    fn least_high(&self, field: usize, of: u64) -> u64 {
-        bits(of).fold(u64::MAX, |least, k| least.min(self.boxes[k][field].1))
+    fn least_high(&self, field: usize, of: u64) -> Number {
+        bits(of).fold(Number::MAX, |least, k| least.min(self.boxes[k][field].1))
     }
 }
 

@@ -4,7 +4,7 @@ use crate::clock::{in_turn, ms, ratio};
 use crate::dead;
 use crate::library::{Call, Text};
 use crate::measured::Measured;
-use crate::search::{hidden, search, Bounds};
+use crate::search::{hidden, search, Bounds, Number};
 use crate::table::{Row, Table};
 use crate::targets::Target;
 use std::hint::black_box;
@@ -79,7 +79,7 @@ fn tried(table: &Table, row: usize) -> u64 {
     let (own, cover) = boxes(table, row);
     let (packet, tried) = search(&own, &cover);
     let witness = dead::witness(table, row);
-    assert_eq!(packet, witness.map(|packet| packet.map(u64::from)));
+    assert_eq!(packet, witness.map(|packet| packet.map(Number::from)));
     tried
 }
 

@@ -9,14 +9,14 @@ use Rattle.base.specs.Outputs.{fits}
 use Rattle.base.specs.Checks.{Check, or-else}
 use Rattle.base.specs.Answers.{Answer, returned, refusedBy, told, valueOr, wrote, callOn}
 use Rattle.policy.specs.Model.{Packet, Row, Table, linesBefore, rowAt, parentOf}
-use Rattle.policy.specs.Wellformed.{widths}
 use Rattle.relations.specs.Groups.{winner}
 use Rattle.relations.specs.declared.group.Outcome.{Outcome}
 use Rattle.relations.specs.declared.group.Outcome.the-variants.{Won, Nobody}
 use Rattle.joining.specs.Joining.{joinable, joined}
 use Rattle.prefixes.specs.Prefixes.{Prefix, prefixes}
-use Rattle.prefixes.specs.Bytes.{prefixBytes}
+use Rattle.prefixes.specs.Bytes.{addressBytes, prefixBytes}
 use Rattle.prefixes.specs.Sides.{isSide, sideOf}
+use Rattle.frames.specs.Parts.{boxWidths}
 use Rattle.frames.specs.Refusals.{shortOutput, noSuchEntity, notJoinable, noSuchSide}
 use Rattle.frames.specs.Kinds.{ofRow, describe}
 use Rattle.frames.specs.Rows.{lineOfRow}
@@ -122,7 +122,7 @@ joinedRow i j t = joined (parentOf t) (rowAt t i) (rowAt t j)
 
 -- "one row line without line feed .., in capitals", of "the common frame kind".
 abbrev pub joinedLine : ℕ → ℕ → Table → List ℕ
-joinedLine i j t = lineOfRow (describe ofRow .byte) widths (joinedRow i j t)
+joinedLine i j t = lineOfRow (describe ofRow .byte) boxWidths (joinedRow i j t)
 
 -- "11 .., after 9 and before 8"
 abbrev pub joinConditions : ℕ → ℕ → Table → List Check
@@ -136,10 +136,6 @@ unfoldable pub joinWritten : Answer Parsed → (i j : ℕ) → List ℕ → List
 joinWritten x i j out = wrote (λ l. l) (writing (joinConditions i j) (λ l. l) (joinedLine i j) out x) out
 
 -- ---- Prefixes
-
--- "four address bytes"
-abbrev pub addressBytes : ℕ
-addressBytes = 4
 
 -- "For a row and a side .., .. the range's prefixes"
 abbrev pub rowPrefixes : ℕ → ℕ → Table → List Prefix

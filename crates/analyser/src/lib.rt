@@ -184,13 +184,8 @@ pub fn join(text: &[u8], i: usize, j: usize, out: &mut [u8]) -> Counted
             line: r.line,
         };
     }
-    if r.table.rows <= i {
-        return Counted::Refused {
-            number: refusals::NO_SUCH_ROW,
-            line: 0,
-        };
-    }
-    if r.table.rows <= j {
+    let rows = (i < r.table.rows) & (j < r.table.rows);
+    if !rows {
         return Counted::Refused {
             number: refusals::NO_SUCH_ROW,
             line: 0,
@@ -235,7 +230,7 @@ pub fn prefixes(text: &[u8], k: usize, side: u8, out: &mut [u8]) -> Counted
     }
     let selector = table::selector_at(&r.table.bounds, k);
     let range = prefixes::side::addresses(selector, side);
-    count_written(prefixes::put(range, ADDRESS, out))
+    count_written(prefixes::put(range, prefixes::ADDRESS_BYTES, out))
 }
 
 // Winner: the row that wins the probe in the group that row k names, or nobody.
@@ -255,13 +250,9 @@ pub fn winner_of(text: &[u8], k: usize, p: Probe) -> Winner
             line: 0,
         };
     }
-    if r.table.entities <= p.source as usize {
-        return Winner::Refused {
-            number: refusals::NO_SUCH_ENTITY,
-            line: 0,
-        };
-    }
-    if r.table.entities <= p.destination as usize {
+    let ends = ((p.source as usize) < r.table.entities)
+        & ((p.destination as usize) < r.table.entities);
+    if !ends {
         return Winner::Refused {
             number: refusals::NO_SUCH_ENTITY,
             line: 0,

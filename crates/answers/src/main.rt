@@ -73,7 +73,7 @@ fn put_count(n: usize) {
     put((n % 256) as u8);
 }
 
-// The digits of a field's number, of so many bytes.
+// The digits of a field's number, of `bytes` bytes.
 fn put_number(n: Number, bytes: usize) {
     let mut left = bytes;
     while 0 < left {

@@ -33,7 +33,7 @@ unfoldable pub some : ℕ → (ℕ → Bool) → Bool
 some zero f = false
 some (suc n) f = some n f || f n
 
--- At the first n of so many places stands what f says, at the others d.
+-- At the first n of `size` places stands what f says, at the others d.
 unfoldable pub filled : {A : Type 0} → A → (ℕ → A) → (size n : ℕ) → List A
 filled d f size n = tabulate (λ k. pick (ltb k n) (f k) d) size
 

@@ -1,6 +1,7 @@
 -- The laws that crates above cite.
 pub mod Parts
 pub mod Numbers
+pub mod Claims
 pub mod Growing
 pub mod Entities
 pub mod Caps

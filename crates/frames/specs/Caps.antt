@@ -9,7 +9,6 @@ use lib.ListN.{length, getD}
 use Rattle.policy.specs.Limits.{technologies, coefficientCount}
 use Rattle.policy.specs.Model.{Coefficients}
 use Rattle.policy.specs.Views.{withCap}
-use Rattle.frames.specs.Faults.{nothingJudged}
 use Rattle.frames.specs.Progress.{FrameKind}
 use Rattle.frames.specs.Parts.{coefficientsFrom}
 
@@ -41,6 +40,6 @@ capKind =
       says = λ bs c. (length (c .coefficients) ≡ coefficientCount) × (bs ≡ c .technology ∷ c .coefficients);
       placed = λ p c. capPlace (length (p .table .entities)) (length (p .table .caps)) (c .technology);
       content = λ t c. [];
-      judged = λ c. nothingJudged;
+      judged = λ c. [];
       grown = λ c p. record { table = withCap (c .coefficients) (p .table); floored = p .floored };
     }

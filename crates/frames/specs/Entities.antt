@@ -13,6 +13,7 @@ use Rattle.policy.specs.Limits.{mostEntities}
 use Rattle.policy.specs.Model.{Entity, noParent, layersOf}
 use Rattle.policy.specs.Views.{withEntity}
 use Rattle.frames.specs.Refusals.{badEntity}
+use Rattle.frames.specs.Faults.{anEntity}
 use Rattle.frames.specs.Progress.{FrameKind}
 
 -- "01 entity, 4 bytes: kind, parent, layer, mask."
@@ -55,13 +56,6 @@ entityKind =
       says = λ bs e. bs ≡ e .parent ∷ e .layer ∷ e .mask ∷ [];
       placed = λ p e. entityPlace (length (p .table .caps)) (length (p .table .entities));
       content = λ t e. entityContent (layersOf t) e;
-      judged = λ e. record {
-        entities = e ∷ [];
-        roots = [];
-        ends = [];
-        technologies = [];
-        coefficients = [];
-        ranges = [];
-      };
+      judged = λ e. anEntity e ∷ [];
       grown = λ e p. record { table = withEntity e (p .table); floored = p .floored };
     }

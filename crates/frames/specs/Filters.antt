@@ -3,30 +3,30 @@
 use Prim.Native.Nat.{ℕ, _+_, _≤_}
 use mathlib.Core.Path.{_≡_}
 use mathlib.Core.Bool.{Bool, _&&_, _||_}
-use mathlib.Core.List.{List, [], _∷_, _++_}
+use mathlib.Core.List.{List, [], _∷_, _++_, map}
 use lib.Dec.{eqb, leb, ltb}
 use lib.ListN.{length, getD}
 use Rattle.base.specs.Checks.{Check, or-else}
 use Rattle.policy.specs.Limits.{mostFilters}
 use Rattle.policy.specs.Model.{Filter, dropping, passing, parentsOf}
 use Rattle.policy.specs.Views.{withFilter}
-use Rattle.policy.specs.Wellformed.{widths}
 use Rattle.relations.specs.Selectors.{inhabited}
 use Rattle.frames.specs.Refusals.{badNumber, emptyRange}
+use Rattle.frames.specs.Faults.{aRoot, aRange}
 use Rattle.frames.specs.Progress.{FrameKind}
-use Rattle.frames.specs.Parts.{selectorFrom, SaysBox, boxBytes}
+use Rattle.frames.specs.Parts.{selectorFrom, SaysBox, boxBytes, boxWidths}
 use Rattle.frames.specs.Numbers.{isRoot}
 
 -- "04 filter, 28 bytes: kind, root, box." "A filter frame may have a 29th byte, 0 to drop and 1 to pass; a frame of 28 bytes drops."
 -- The place of that byte.
 abbrev pub actionPlace : ℕ
-actionPlace = 1 + boxBytes widths
+actionPlace = 1 + boxBytes boxWidths
 
 abbrev pub filterLength : List ℕ → Bool
 filterLength bs = (eqb (length bs) actionPlace || eqb (length bs) (actionPlace + 1)) && leb (getD bs actionPlace 0) passing
 
 abbrev pub filterFrom : List ℕ → Filter
-filterFrom bs = record { root = getD bs 0 0; selector = selectorFrom 1 widths bs; action = getD bs actionPlace 0 }
+filterFrom bs = record { root = getD bs 0 0; selector = selectorFrom 1 boxWidths bs; action = getD bs actionPlace 0 }
 
 -- What stands after the box says the action: nothing, or one byte.
 abbrev pub SaysAction : List ℕ → ℕ → Type 0
@@ -37,7 +37,7 @@ SaysAction (b ∷ c ∷ bs) action = ⊥
 -- The bytes say the filter.
 pub record SaysFilter (bs : List ℕ) (f : Filter) : Type 0 where
   pub box : List ℕ
-  pub selector : SaysBox widths box (f .selector)
+  pub selector : SaysBox boxWidths box (f .selector)
   pub last : List ℕ
   pub action : SaysAction last (f .action)
   pub bytes : bs ≡ f .root ∷ (box ++ last)
@@ -60,13 +60,6 @@ filterKind =
       says = SaysFilter;
       placed = λ p f. filterPlace (p .floored) (length (p .table .rows)) (length (p .table .filters));
       content = λ t f. filterContent (parentsOf t) f;
-      judged = λ f. record {
-        entities = [];
-        roots = f .root ∷ [];
-        ends = [];
-        technologies = [];
-        coefficients = [];
-        ranges = f .selector;
-      };
+      judged = λ f. aRoot (f .root) ∷ map aRange (f .selector);
       grown = λ f p. record { table = withFilter f (p .table); floored = p .floored };
     }

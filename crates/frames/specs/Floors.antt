@@ -9,7 +9,6 @@ use lib.ListN.{length}
 use Rattle.policy.specs.Limits.{technologies, coefficientCount}
 use Rattle.policy.specs.Model.{Coefficients}
 use Rattle.policy.specs.Views.{withFloor}
-use Rattle.frames.specs.Faults.{nothingJudged}
 use Rattle.frames.specs.Progress.{FrameKind}
 use Rattle.frames.specs.Parts.{coefficientsFrom}
 
@@ -33,6 +32,6 @@ floorKind =
       says = λ bs c. (length c ≡ coefficientCount) × (bs ≡ c);
       placed = λ p c. floorPlace (length (p .table .caps)) (p .floored);
       content = λ t c. [];
-      judged = λ c. nothingJudged;
+      judged = λ c. [];
       grown = λ c p. record { table = withFloor c (p .table); floored = 1 };
     }

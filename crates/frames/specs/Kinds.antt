@@ -2,7 +2,7 @@
 -- Assumes nothing.
 use mathlib.Core.List.{List, [], _∷_}
 use Rattle.policy.specs.Model.{Entity, Coefficients, Filter, Row}
-use Rattle.policy.specs.Wellformed.{widths}
+use Rattle.frames.specs.Parts.{boxWidths}
 use Rattle.frames.specs.Progress.{FrameKind}
 use Rattle.frames.specs.Entities.{entityKind}
 use Rattle.frames.specs.Caps.{Cap, capKind}
@@ -30,7 +30,7 @@ describe ofEntity = entityKind
 describe ofCap = capKind
 describe ofFloor = floorKind
 describe ofFilter = filterKind
-describe ofRow = rowKind 5 widths
+describe ofRow = rowKind 5 boxWidths
 
 abbrev pub frameNames : List FrameName
 frameNames = ofEntity ∷ ofCap ∷ ofFloor ∷ ofFilter ∷ ofRow ∷ []

@@ -22,7 +22,7 @@ isRoot parents e = ltb e (length parents) && eqb (getD parents e 0) noParent
 unfoldable pub allRoots : List ℕ → List ℕ → Bool
 allRoots parents gs = allPass (isRoot parents) gs
 
--- The lent list has a number for each entity that there may be, and there are so many entities.
+-- The lent list has a number for each entity that there may be, and there are `entities` of them.
 pub record Lent (perEntity : List ℕ) (entities : ℕ) : Type 0 where
   pub full : length perEntity ≡ mostEntities
   pub few : entities ≤ mostEntities

@@ -20,7 +20,7 @@ abbrev pub selectorFrom : ℕ → List ℕ → List ℕ → Selector
 selectorFrom at [] bs = []
 selectorFrom at (w ∷ ws) bs = rangeFrom at w bs ∷ selectorFrom (at + 2 * w) ws bs
 
--- "Numbers are most significant byte first": so many bytes say the number.
+-- "Numbers are most significant byte first": `width` bytes say the number.
 abbrev pub SaysNumber : ℕ → List ℕ → ℕ → Type 0
 SaysNumber width bs n = (length bs ≡ width) × (numberOf bs ≡ n)
 
@@ -52,6 +52,10 @@ abbrev pub boxBytes : List ℕ → ℕ
 boxBytes [] = 0
 boxBytes (w ∷ ws) = 2 * w + boxBytes ws
 
--- The widths of a box with addresses of so many bytes: source and destination address, source and destination port, protocol.
+-- The widths of a box with addresses of `address` bytes: source and destination address, source and destination port, protocol.
 abbrev pub boxOf : ℕ → List ℕ
 boxOf address = address ∷ address ∷ 2 ∷ 2 ∷ 1 ∷ []
+
+-- "source address (4 bytes each), destination address (4), source port (2), destination port (2), protocol (1)"
+abbrev pub boxWidths : List ℕ
+boxWidths = boxOf 4

@@ -9,7 +9,7 @@ use Rattle.base.specs.Truths.{pick}
 use Rattle.policy.specs.Model.{Table, linesBefore}
 use Rattle.policy.specs.Views.{noTable}
 use Rattle.frames.specs.Refusals.{wrongForm, outOfSequence}
-use Rattle.frames.specs.Faults.{Judged}
+use Rattle.frames.specs.Faults.{Claim}
 
 -- The table so far, and 1 once the floor has been read, else 0.
 pub record Progress : Type 0 where
@@ -18,6 +18,10 @@ pub record Progress : Type 0 where
 
 abbrev pub nothing : Progress
 nothing = record { table = noTable; floored = 0 }
+
+-- A whole table has been read.
+abbrev pub allRead : Table → Progress
+allRead t = record { table = t; floored = 1 }
 
 -- How many lines have been read: those before the rows, and the rows'.
 abbrev pub linesRead : Progress → ℕ
@@ -37,7 +41,7 @@ pub record FrameKind (A : Type 0) : Type 1 where
   -- the rules of its content: 4 to 7
   pub content : Table → A → List Check
   -- what it says that they judge
-  pub judged : A → Judged
+  pub judged : A → List Claim
   -- what has been read, and it
   pub grown : A → Progress → Progress
 

@@ -30,6 +30,10 @@ emptyRange = 6
 abbrev pub protectedNull : ℕ
 protectedNull = 7
 
+-- The largest number with which a text itself is refused.
+abbrev pub lastOfText : ℕ
+lastOfText = protectedNull
+
 -- "output shorter than the result"
 abbrev pub shortOutput : ℕ
 shortOutput = 8

@@ -3,7 +3,7 @@
 use Prim.Native.Nat.{ℕ, _+_, _≤_}
 use mathlib.Core.Path.{_≡_}
 use mathlib.Core.Bool.{Bool, not, _&&_, _||_}
-use mathlib.Core.List.{List, [], _∷_, _++_}
+use mathlib.Core.List.{List, [], _∷_, _++_, map}
 use lib.Dec.{eqb, leb, ltb}
 use lib.ListN.{length, getD, take, drop}
 use Rattle.base.specs.Checks.{Check, or-else}
@@ -13,6 +13,7 @@ use Rattle.policy.specs.Model.{Coefficients, Row, parentsOf}
 use Rattle.policy.specs.Views.{withRow}
 use Rattle.relations.specs.Selectors.{inhabited}
 use Rattle.frames.specs.Refusals.{badNumber, emptyRange, protectedNull}
+use Rattle.frames.specs.Faults.{aRoot, anEnd, aTechnology, aRange, aProtection}
 use Rattle.frames.specs.Progress.{FrameKind}
 use Rattle.frames.specs.Parts.{coefficientsFrom, selectorFrom, SaysBox, bytesOfBox, mostWidth, boxBytes, boxOf}
 use Rattle.base.specs.Lists.{allPass}
@@ -105,13 +106,11 @@ rowKind byte ws =
       says = SaysRow ws;
       placed = λ p r. rowPlace (p .floored) (length (p .table .rows));
       content = λ t r. rowContent (parentsOf t) r;
-      judged = λ r. record {
-        entities = [];
-        roots = r .holder ∷ r .gateways;
-        ends = r .source ∷ r .destination ∷ [];
-        technologies = r .technology ∷ [];
-        coefficients = r .coefficients;
-        ranges = r .selector;
-      };
+      judged = λ r.
+          aRoot (r .holder)
+          ∷ anEnd (r .source)
+          ∷ anEnd (r .destination)
+          ∷ aTechnology (r .technology)
+          ∷ (map aRoot (r .gateways) ++ (map aRange (r .selector) ++ (aProtection (r .technology) (r .coefficients) ∷ [])));
       grown = λ r p. record { table = withRow r (p .table); floored = p .floored };
     }

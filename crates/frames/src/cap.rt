@@ -17,7 +17,7 @@ pub fn has_length(part: &[u8]) -> bool
     parts::has_bytes(part, 4)
 }
 
-// Whether the sequence can go on with the cap of this technology, after so many entities and caps.
+// Whether the sequence can go on with the cap of this technology, after `entities` entities and `caps` caps.
 pub fn has_place(entities: usize, caps: usize, technology: u8) -> bool
     requires { ⌜ caps ≤ technologies ⌝ }
     ensures { λ r. ⌜ r ≡ capPlace entities caps technology ⌝ }

@@ -22,7 +22,7 @@ pub fn has_length(part: &[u8]) -> bool
     parts::has_bytes(part, 3)
 }
 
-// Whether the sequence can go on with an entity, after so many caps and entities.
+// Whether the sequence can go on with an entity, after `caps` caps and `entities` entities.
 pub fn has_place(caps: usize, entities: usize) -> bool
     ensures { λ r. ⌜ r ≡ entityPlace caps entities ⌝ }
 {

@@ -30,7 +30,7 @@ pub fn has_length(part: &[u8]) -> bool
     long & (parts::byte_or_zero(part, ACTION) <= PASSING)
 }
 
-// Whether the sequence can go on with a filter, after so many rows and filters; floored is 1 if the floor has been read, else 0.
+// Whether the sequence can go on with a filter, after `rows` rows and `filters` filters; `floored` is 1 if the floor has been read, else 0.
 pub fn has_place(floored: u8, rows: usize, filters: usize) -> bool
     ensures { λ r. ⌜ r ≡ filterPlace floored rows filters ⌝ }
 {

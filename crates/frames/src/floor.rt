@@ -16,7 +16,7 @@ pub fn has_length(part: &[u8]) -> bool
     parts::has_bytes(part, 3)
 }
 
-// Whether the sequence can go on with the floor, after so many caps; floored is 1 if it has been read, else 0.
+// Whether the sequence can go on with the floor, after `caps` caps; `floored` is 1 if it has been read, else 0.
 pub fn has_place(caps: usize, floored: u8) -> bool
     ensures { λ r. ⌜ r ≡ floorPlace caps floored ⌝ }
 {

@@ -1,12 +1,11 @@
-// What several frames have: a length, coefficients, a box. The bytes of a number, which prefixes have too.
+// What several frames have: a length, coefficients, a box.
 ghost use mathlib.Core.Path.{_≡_};
 ghost use Prim.Native.Nat.{_+_, _*_, _<_, _≤_};
 ghost use lib.Dec.{eqb};
 ghost use lib.ListN.{length, getD};
 ghost use lib.Seq.{sets};
 ghost use Rattle.hex.specs.Lines.{bytesOf};
-ghost use Rattle.hex.specs.Numbers.{numberBytes};
-ghost use Rattle.policy.specs.Views.{value, coefficientsOf, rangeOf, selectorOf};
+ghost use Rattle.policy.specs.Views.{coefficientsOf, rangeOf, selectorOf};
 ghost use Rattle.frames.specs.Parts.{coefficientsFrom, rangeFrom, selectorFrom, bytesOfRange, bytesOfBox, mostWidth, boxBytes, boxOf};
 use crate::widths::PORT;
 use crate::widths::PROTOCOL;
@@ -26,7 +25,7 @@ pub fn byte_or_zero(part: &[u8], at: usize) -> u8
     hex::u8_at(part, at)
 }
 
-// Whether the part is so many bytes.
+// Whether the part is `n` bytes.
 pub fn has_bytes(part: &[u8], n: usize) -> bool
     ensures { λ r. ⌜ r ≡ eqb (length (bytesOf (now (part .entry)))) n ⌝ }
 {
@@ -45,7 +44,7 @@ pub fn coefficients(part: &[u8], at: usize) -> Coefficients
     }
 }
 
-// How many bytes a box has, with addresses of so many bytes.
+// How many bytes a box has, with addresses of `address` bytes.
 pub fn box_bytes(address: usize) -> usize
     requires { ⌜ address ≤ mostWidth ⌝ }
     ensures { λ r. ⌜ r ≡ boxBytes (boxOf address) ⌝ }
@@ -53,7 +52,7 @@ pub fn box_bytes(address: usize) -> usize
     4 * address + 4 * PORT + 2 * PROTOCOL
 }
 
-// The low and the high of a field of so many bytes, from place at on.
+// The low and the high of a field of `width` bytes, from place at on.
 fn range(part: &[u8], at: usize, width: usize) -> Range
     requires { ⌜ (2 * (at + width + width) ≤ length (now part)) × (width ≤ mostWidth) ⌝ }
     ensures { λ r. ⌜ rangeOf r ≡ rangeFrom at width (bytesOf (now (part .entry))) ⌝ }
@@ -64,7 +63,7 @@ fn range(part: &[u8], at: usize, width: usize) -> Range
     }
 }
 
-// The box, with addresses of so many bytes, from place at on.
+// The box, with addresses of `address` bytes, from place at on.
 pub fn selector(part: &[u8], at: usize, address: usize) -> Selector
     requires { ⌜ (2 * (at + boxBytes (boxOf address)) ≤ length (now part)) × (address ≤ mostWidth) ⌝ }
     ensures { λ r. ⌜ selectorOf r ≡ selectorFrom at (boxOf address) (bytesOf (now (part .entry))) ⌝ }
@@ -92,28 +91,16 @@ pub fn put_bytes(from: &[u8], bytes: &mut [u8], at: usize)
     }
 }
 
-// Writes the number's bytes, so many, the most significant first, into bytes from place at on. The rest of bytes is unchanged.
-pub fn put_number(n: Number, width: usize, bytes: &mut [u8], at: usize)
-    requires { ⌜ at + width ≤ length (now bytes) ⌝ }
-    ensures { λ _. ⌜ now (bytes .exit) ≡ sets (now (bytes .entry)) at (numberBytes width (value n)) ⌝ }
-{
-    let mut k = 0;
-    while k < width {
-        bytes[at + k] = n.byte(width - 1 - k);
-        k += 1;
-    }
-}
-
-// Writes the low and the high of a field of so many bytes into bytes from place at on. The rest of bytes is unchanged.
+// Writes the low and the high of a field of `width` bytes into bytes from place at on. The rest of bytes is unchanged.
 fn put_range(r: Range, width: usize, bytes: &mut [u8], at: usize)
     requires { ⌜ (width ≤ mostWidth) × (at + 2 * width ≤ length (now bytes)) ⌝ }
     ensures { λ _. ⌜ now (bytes .exit) ≡ sets (now (bytes .entry)) at (bytesOfRange width (rangeOf r)) ⌝ }
 {
-    put_number(r.low, width, bytes, at);
-    put_number(r.high, width, bytes, at + width);
+    r.low.put(width, bytes, at);
+    r.high.put(width, bytes, at + width);
 }
 
-// Writes the box, with addresses of so many bytes, into bytes from place at on. The rest of bytes is unchanged.
+// Writes the box, with addresses of `address` bytes, into bytes from place at on. The rest of bytes is unchanged.
 pub fn put_selector(s: Selector, address: usize, bytes: &mut [u8], at: usize)
     requires { ⌜ (address ≤ mostWidth) × (at + boxBytes (boxOf address) ≤ length (now bytes)) ⌝ }
     ensures { λ _. ⌜ now (bytes .exit) ≡ sets (now (bytes .entry)) at (bytesOfBox (boxOf address) (selectorOf s)) ⌝ }

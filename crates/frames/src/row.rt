@@ -1,5 +1,5 @@
-// The frame of a row: holder, source, destination, technology, coefficients, box, the number of gateways, the gateways. The box's
-// addresses are of so many bytes as the caller says.
+// The frame of a row: holder, source, destination, technology, coefficients, box, the number of gateways, the gateways. An
+// address of the box has `address` bytes.
 ghost use mathlib.Core.Path.{_≡_};
 ghost use mathlib.Core.Bool.{true};
 ghost use mathlib.Core.List.{_∷_};
@@ -60,7 +60,7 @@ pub fn has_length(part: &[u8], address: usize) -> bool
     (at < bytes) & ((n <= GATEWAYS) & (bytes == at + 1 + n))
 }
 
-// Whether the sequence can go on with a row, after so many rows; floored is 1 if the floor has been read, else 0.
+// Whether the sequence can go on with a row, after `rows` rows; `floored` is 1 if the floor has been read, else 0.
 pub fn has_place(floored: u8, rows: usize) -> bool
     ensures { λ r. ⌜ r ≡ rowPlace floored rows ⌝ }
 {

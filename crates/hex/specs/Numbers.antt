@@ -13,7 +13,7 @@ numberOf (b ∷ bs) = b * 256 ^ length bs + numberOf bs
 abbrev pub field : ℕ → ℕ → List ℕ → ℕ
 field at width bs = numberOf (take width (drop at bs))
 
--- The bytes of a number, so many, the most significant first. (A number that needs more loses its first bytes.)
+-- The last `width` bytes of a number, the most significant first.
 abbrev pub numberBytes : ℕ → ℕ → List ℕ
 numberBytes zero n = []
 numberBytes (suc width) n = (n / 256 ^ width) % 256 ∷ numberBytes width n

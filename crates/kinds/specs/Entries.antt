@@ -32,7 +32,7 @@ sum (suc n) k f = f k + sum n (suc k) f
 abbrev pub listed : Table → ℕ → ℕ → ℕ → List Entry
 listed t i kind j = pick (anomaly t i kind j) (entry i kind j ∷ []) []
 
--- A block of entries is of so many things, rows or filters, and of so many kinds from one on.
+-- A block of entries is of `things` things, rows or filters, and of `kinds` kinds from `kind` on.
 pub record Block : Type 0 where
   pub things : ℕ
   pub kind : ℕ
@@ -44,7 +44,7 @@ rowBlock t = record { things = length (t .rows); kind = 1; kinds = rowKindCount 
 abbrev pub filterBlock : Table → Block
 filterBlock t = record { things = length (t .filters); kind = suc rowKindCount; kinds = filterKindCount }
 
--- Of thing i and a kind, for each second number: those of so many things, and FF.
+-- Of thing i and a kind, for each second number: those of the first `things` things, and FF.
 abbrev pub ofKind : Table → ℕ → ℕ → ℕ → List Entry
 ofKind t things i kind = gather things 0 (λ j. listed t i kind j) ++ listed t i kind noSecond
 

@@ -1,14 +1,14 @@
--- What the tests of the kinds look at: of a table, and of the runs that it lends.
+-- What the tests of the kinds look at in a table, and the chain search over the runs that it lends.
 -- Assumes nothing.
 use Prim.Native.Nat.{ℕ}
 use mathlib.Core.Bool.{Bool}
 use mathlib.Core.List.{List}
-use lib.ListN.{length, getD}
+use lib.ListN.{length}
 use Rattle.policy.specs.Model.{Coefficients, Filter, Table, entityAt, filterAt, parentOf}
-use Rattle.policy.specs.Views.{parentIn, rowIn, rowsIn, selectorIn, selectorOf, filterIn}
+use Rattle.policy.specs.Views.{selectorIn, selectorOf}
 use Rattle.policy.specs.declared.selector.Selector.{Selector as SelectorStruct}
-use Rattle.verdicts.specs.Verdicts.{verdictAfter, isNone, dead}
-use Rattle.kinds.specs.Views.{Placed, placedAt, placedIn, fromIn, toIn, visitedOf}
+use Rattle.verdicts.specs.Verdicts.{dead}
+use Rattle.kinds.specs.Views.{Placed, placedAt, fromIn, toIn, visitedOf}
 use Rattle.kinds.specs.Tests.{pairOf, goesOn, chains, alternativePath}
 use Rattle.kinds.specs.declared.pair.Pair.{Pair}
 use Rattle.kinds.specs.declared.path.Visited.{Visited}
@@ -43,21 +43,6 @@ abbrev pub pairIn : Seen → ℕ → ℕ → Pair
 pairIn s i j = pairOf (s .up) i j (s .placed i) (s .placed j)
 
 -- ---- what is lent
-
--- The caps and the floor are not runs; all else is.
-abbrev pub seenIn : (parents masks : List ℕ) (caps : List Coefficients) (floor : Coefficients) (filters : ℕ) (filterRoots filterActions heads bounds roots : List ℕ) (rows : ℕ) → Seen
-seenIn parents masks caps floor filters filterRoots filterActions heads bounds roots rows =
-    record {
-      up = parentIn parents;
-      mask = λ e. getD masks e 0;
-      caps = caps;
-      floor = floor;
-      filters = filters;
-      filter = filterIn filterRoots filterActions bounds;
-      rows = rows;
-      placed = placedIn heads bounds roots;
-      dead = λ i. isNone (verdictAfter (parentIn parents) (rowsIn heads bounds i) (rowIn heads bounds i));
-    }
 
 -- The chain search over the roots and the selectors that are lent.
 module _ (bounds roots : List ℕ) where

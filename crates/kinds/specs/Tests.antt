@@ -62,7 +62,7 @@ filters r f = eqb (f .action) dropping && (among (f .root) (r .gateways) && cont
 unfoldable pub excepts : Row → ℕ → Filter → Bool
 excepts r root f = eqb (f .action) passing && (eqb (f .root) root && overlaps (f .selector) (r .selector))
 
--- One of the first so many filters, by number, excepts packets of the row at this root.
+-- One of the first `count` filters, by number, excepts packets of the row at this root.
 unfoldable pub excepted : (ℕ → Filter) → ℕ → ℕ → Row → Bool
 excepted at count root r = some count (λ k. excepts r root (at k))
 
@@ -70,7 +70,7 @@ excepted at count root r = some count (λ k. excepts r root (at k))
 unfoldable pub filteredBy : (ℕ → Filter) → ℕ → Row → Bool
 filteredBy at k r = filters r (at k) && not (excepted at k (at k .root) r)
 
--- 14, filtered, by one of so many filters, by number.
+-- 14, filtered, by one of the first `count` filters, by number.
 unfoldable pub filtered : (ℕ → Filter) → ℕ → Row → Bool
 filtered at count r = some count (λ k. filteredBy at k r)
 
@@ -94,13 +94,13 @@ answers q r =
     && (eqb (q .destination) (r .source)
     && (same (q .coefficients) (r .coefficients) && sameSelector (q .selector) (exchange (r .selector))))
 
--- 12, superfluous, of row i of so many rows, by number.
+-- 12, superfluous, of row i of `rows` rows, by number.
 unfoldable pub superfluous : (ℕ → Placed) → ℕ → ℕ → Bool
 superfluous at rows i =
     some rows (λ j. not (eqb j i) && rides (at j) (at i))
     && not (some rows (λ j. (not (eqb j i) && rides (at j) (at i)) && not (atLeast (at j .row .coefficients) (at i .row .coefficients))))
 
--- 16, asymmetric, of row i of so many.
+-- 16, asymmetric, of row i of `rows` rows.
 unfoldable pub asymmetric : (ℕ → Row) → ℕ → ℕ → Bool
 asymmetric at rows i = not (some rows (λ j. answers (at j) (at i)))
 
@@ -110,7 +110,7 @@ module _ (from to : ℕ → ℕ) (selector : ℕ → Selector) where
   unfoldable pub goesOn : ℕ → ℕ → List ℕ → Selector → Bool
   goesOn j a visited s = eqb (from j) a && (not (among (to j) visited) && inhabited (meet s (selector j)))
 
-  -- Of so many rows, at most n chain from the root a to the root b, past none that is visited, with a packet of s in all of them. A row
+  -- Of the first `rows` rows, at most n chain from the root a to the root b, past none that is visited, with a packet of s in all of them. A row
   -- that ends at b is the chain's last; where three more were allowed it is the only one, which is no chain.
   unfoldable pub chains : ℕ → ℕ → ℕ → ℕ → List ℕ → Selector → Bool
   chains rows zero b a visited s = false
@@ -120,7 +120,7 @@ module _ (from to : ℕ → ℕ) (selector : ℕ → Selector) where
       goesOn j a visited s
       && elim (eqb (to j) b) [ true ↦ ltb n 3 | false ↦ chains rows n b (to j) (to j ∷ visited) (meet s (selector j)) ])
 
-  -- 19, alternative path, of row i of so many.
+  -- 19, alternative path, of row i of `rows` rows.
   unfoldable pub alternativePath : ℕ → ℕ → Bool
   alternativePath rows i = chains rows 4 (to i) (from i) (from i ∷ []) (selector i)
 

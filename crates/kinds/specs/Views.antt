@@ -57,7 +57,7 @@ endOf false r = r .destination
 abbrev pub rootIn : (parents heads bounds : List ℕ) → ℕ → ℕ
 rootIn parents heads bounds k = rootOf (parentIn parents) (endOf (eqb (k % 2) 0) (rowIn heads bounds (k / 2)))
 
--- The run has the roots of so many rows, and then zeros.
+-- The run has the roots of the first `rows` rows, and then zeros.
 pub record Rooted (parents heads bounds : List ℕ) (rows : ℕ) (roots : List ℕ) : Type 0 where
   pub whole : roots ≡ filled 0 (rootIn parents heads bounds) (2 * mostRows) (2 * rows)
 

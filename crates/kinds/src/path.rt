@@ -2,7 +2,7 @@
 ghost use mathlib.Core.Path.{_≡_};
 ghost use Prim.Native.Nat.{_+_, _≤_, _<_};
 ghost use Rattle.policy.specs.Limits.{mostGateways, mostRows};
-ghost use Rattle.kinds.specs.Views.{Grown};
+ghost use Rattle.kinds.specs.Views.{Grown, fromIn};
 ghost use Rattle.kinds.specs.Seen.{goesOnIn, chainsIn, alternativePathIn};
 use crate::placed::Roots;
 use crate::roots::among_from;
@@ -30,21 +30,17 @@ fn with(v: Visited, x: u8) -> Visited
     }
 }
 
-// Whether row j goes on from the root a to one that is not visited, and shares a packet with s.
+// Whether row j goes on from where it begins to a root that is not visited, and shares a packet with s.
 fn goes_on<'a>(
     bounds: &'a Bounds,
     roots: &'a Roots,
     j: usize,
-    a: u8,
     visited: Visited,
     s: Selector,
 ) -> bool
     requires { ⌜ (j < mostRows) × (visited .count ≤ mostGateways) ⌝ }
-    ensures { λ r. ⌜ r ≡ goesOnIn (now (bounds .entry)) (now (roots .entry)) j a visited s ⌝ }
+    ensures { λ r. ⌜ r ≡ goesOnIn (now (bounds .entry)) (now (roots .entry)) j (fromIn (now (roots .entry)) j) visited s ⌝ }
 {
-    if roots[2 * j] != a {
-        return false;
-    }
     let at = visited.at;
     if among_from(roots[2 * j + 1], at, visited.count, 0) {
         return false;
@@ -53,7 +49,7 @@ fn goes_on<'a>(
 }
 
 // Whether at most `left` rows chain from the root a to the root b, past none that is visited, with a packet of s in all of them: one
-// that goes on, and from its end one fewer.
+// that goes on, and from its end one fewer. Where one is left, those that do not end at b are passed over.
 fn chains<'a>(
     bounds: &'a Bounds,
     roots: &'a Roots,
@@ -74,10 +70,16 @@ fn chains<'a>(
     while j < rows {
         let k = j;
         j += 1;
-        if !goes_on(bounds, roots, k, a, visited, s) {
+        if roots[2 * k] != a {
             continue;
         }
         let to = roots[2 * k + 1];
+        if (left == 1) & (to != b) {
+            continue;
+        }
+        if !goes_on(bounds, roots, k, visited, s) {
+            continue;
+        }
         if to == b {
             if left < 4 {
                 return true;

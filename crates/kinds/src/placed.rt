@@ -34,7 +34,7 @@ pub fn placed_at<'a>(heads: &'a Heads, bounds: &'a Bounds, roots: &'a Roots, i: 
     }
 }
 
-// The roots of the sources and destinations of so many rows; past them zeros.
+// The roots of the sources and destinations of the first `rows` rows; past them zeros.
 pub fn roots_of<'a>(
     parents: &'a PerEntity,
     heads: &'a Heads,

@@ -26,7 +26,7 @@ bytes (e ∷ es) = e .first ∷ e .kind ∷ e .second ∷ bytes es
 abbrev pub Listing : List Entry → (before after : List ℕ) → Written → Type 0
 Listing es before after r = WritesCounted (length es) (bytes es) before after r
 
--- A buffer of so many bytes has room for n entries, and es after them.
+-- A buffer of `size` bytes has room for n entries, and es after them.
 abbrev pub Room : ℕ → ℕ → List Entry → Type 0
 Room size n es = entryBytes * (n + length es) ≤ size
 

@@ -13,17 +13,18 @@ use Rattle.base.specs.Truths.{pick}
 use Rattle.base.specs.Bits.{bitsOf, marked}
 use Rattle.policy.specs.Limits.{mostEntities, technologies, mostFilters, mostRows}
 use Rattle.policy.specs.Model.{Row}
-use Rattle.policy.specs.Views.{parentIn, rowIn, coefficientsOf, filterIn}
+use Rattle.policy.specs.Views.{parentIn, rowIn, rowsIn, coefficientsOf, filterIn}
 use Rattle.policy.specs.Wellformed.{Ordered}
-use Rattle.policy.specs.declared.row.Coefficients.{Coefficients as CoefficientsStruct}
 use Rattle.relations.specs.Entities.{Parents}
 use Rattle.base.specs.Lists.{tabulate}
+use Rattle.verdicts.specs.Verdicts.{verdictAfter, isNone}
 use Rattle.kinds.specs.Views.{fromIn, toIn, placedIn}
 use Rattle.kinds.specs.Tests.{pairOf}
-use Rattle.kinds.specs.Seen.{seenIn}
+use Rattle.kinds.specs.Seen.{Seen}
 use Rattle.kinds.specs.Kinds.{kindCount, noSecond, rowTests, pairTests, filterTests}
 use Rattle.kinds.specs.Entries.{Entry, entry, gather, sum, Block}
 use Rattle.listing.specs.declared.put.Block.{Block as BlockStruct}
+use Rattle.listing.specs.declared.marks.Alone.{Alone}
 
 -- ---- what is asked of the rows that are lent
 
@@ -36,17 +37,17 @@ pub record GoodRow (r : Row) : Type 0 where
 abbrev pub GoodRows : List ℕ → List ℕ → ℕ → Type 0
 GoodRows heads bounds rows = (i : ℕ) → i < rows → GoodRow (rowIn heads bounds i)
 
--- Row i, with its roots, of so many rows, beside so many filters.
-pub record GoodAlone (parents heads bounds roots : List ℕ) (filters rows i : ℕ) : Type 0 where
+-- A row alone, with its roots.
+pub record GoodAlone (parents heads bounds roots : List ℕ) (a : Alone) : Type 0 where
   pub tree : Parents parents
-  pub row : GoodRow (rowIn heads bounds i)
-  pub few : rows ≤ mostRows
-  pub place : i < mostRows
-  pub few-filters : filters ≤ mostFilters
-  pub from : fromIn roots i < mostEntities
-  pub to : toIn roots i < mostEntities
+  pub row : GoodRow (rowIn heads bounds (a .i))
+  pub few : a .rows ≤ mostRows
+  pub place : a .i < mostRows
+  pub few-filters : a .filters ≤ mostFilters
+  pub from : fromIn roots (a .i) < mostEntities
+  pub to : toIn roots (a .i) < mostEntities
 
--- Row i of so many rows.
+-- Row i of `rows` rows.
 pub record GoodAmong (parents heads bounds : List ℕ) (rows i : ℕ) : Type 0 where
   pub tree : Parents parents
   pub each : GoodRows heads bounds rows
@@ -55,10 +56,24 @@ pub record GoodAmong (parents heads bounds : List ℕ) (rows i : ℕ) : Type 0 w
 
 -- ---- the marks
 
--- The number has the kinds of row i alone.
-pub record MarkedAlone (parents masks : List ℕ) (caps : List CoefficientsStruct) (floor : CoefficientsStruct) (filters : ℕ) (filterRoots filterActions heads bounds roots : List ℕ) (rows i m : ℕ) : Type 0 where
-  pub marks : m
-      ≡ bitsOf (rowTests (seenIn parents masks (map coefficientsOf caps) (coefficientsOf floor) filters filterRoots filterActions heads bounds roots rows) i)
+-- What the tests of the kinds look at, of what is lent, and the kinds of a row alone.
+module _ (parents masks filterRoots filterActions heads bounds roots : List ℕ) (a : Alone) where
+  abbrev pub seenIn : Seen
+  seenIn =
+      record {
+        up = parentIn parents;
+        mask = λ e. getD masks e 0;
+        caps = map coefficientsOf (a .caps);
+        floor = coefficientsOf (a .floor);
+        filters = a .filters;
+        filter = filterIn filterRoots filterActions bounds;
+        rows = a .rows;
+        placed = placedIn heads bounds roots;
+        dead = λ i. isNone (verdictAfter (parentIn parents) (rowsIn heads bounds i) (rowIn heads bounds i));
+      }
+
+  abbrev pub aloneMarks : ℕ
+  aloneMarks = bitsOf (rowTests seenIn (a .i))
 
 -- The kinds of rows i and j.
 abbrev pub pairMarks : (parents heads bounds roots : List ℕ) (i j : ℕ) → ℕ
@@ -89,7 +104,7 @@ pub record MarkedFilter (roots actions bounds : List ℕ) (filters k : ℕ) (bef
   pub stored : after ≡ sets before (mostRows * k) (tabulate (λ m. bitOr (markAt before k m) (filterMarks roots actions bounds k m)) filters)
   pub count : n ≡ sum filters 0 (λ m. ones (filterMarks roots actions bounds k m))
 
--- The same of the first so many of the filters: the kinds that are marked then are those before, and those of filters i and j.
+-- The same of the first `upto` of the filters: the kinds that are marked then are those before, and those of filters i and j.
 pub record MarkedFilters (roots actions bounds : List ℕ) (filters upto : ℕ) (before after : List ℕ) (n : ℕ) : Type 0 where
   pub long : length after ≡ length before
   pub marks : (i j kind : ℕ) → i < mostRows → j < mostRows
@@ -102,7 +117,7 @@ pub record MarkedFilters (roots actions bounds : List ℕ) (filters upto : ℕ) 
 abbrev pub listedIf : Bool → ℕ → ℕ → ℕ → List Entry
 listedIf b i kind j = pick b (entry i kind j ∷ []) []
 
--- Of thing i, whose own kinds are marked in own, of so many.
+-- Of thing i of `things`, whose own kinds are marked in `own`.
 abbrev pub pairsMarked : List ℕ → ℕ → ℕ → ℕ → List Entry
 pairsMarked pairs things i kind = gather things 0 (λ j. listedIf (marked (markAt pairs i j) kind) i kind j)
 

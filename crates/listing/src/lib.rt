@@ -8,6 +8,7 @@ ghost use Rattle.policy.specs.Wellformed.{Wellformed};
 ghost use Rattle.kinds.specs.Entries.{entries};
 ghost use Rattle.listing.specs.Bytes.{Listing};
 use crate::limits::ENTRY_BYTES;
+use crate::marks::Alone;
 use crate::marks::Marks;
 use crate::marks::PairMarks;
 use crate::put::Block;
@@ -34,22 +35,27 @@ pub fn list(t: Table, out: &mut [u8]) -> Written
         own: [0u32; ROWS],
         pairs: [0u32; ROWS * ROWS],
     };
+    let caps = t.caps;
+    let floor = t.floor;
     let mut n = 0;
     let mut i = 0;
     while i < t.rows {
+        let row = Alone {
+            caps,
+            floor,
+            filters: t.filters,
+            rows: t.rows,
+            i,
+        };
         let alone = marks::of_row(
             &t.parents,
             &t.masks,
-            t.caps,
-            t.floor,
-            t.filters,
             &t.filter_roots,
             &t.filter_actions,
             &t.heads,
             &t.bounds,
             &roots,
-            t.rows,
-            i,
+            row,
         );
         kept.own[i] = alone;
         marks::of_pairs(

@@ -11,7 +11,7 @@ ghost use Rattle.kinds.specs.Tests.{pairOf};
 ghost use Rattle.kinds.specs.Kinds.{kindCount, pairTests, filterTests};
 ghost use Rattle.kinds.specs.Entries.{mostEntries};
 ghost use Rattle.base.specs.Bits.{bitsOf, marked as markedTest};
-ghost use Rattle.listing.specs.Marks.{GoodRow, GoodAlone, GoodAmong, MarkedAlone, MarkedPairs, MarkedFilter, MarkedFilters, rowCount};
+ghost use Rattle.listing.specs.Marks.{GoodRow, GoodAlone, GoodAmong, aloneMarks, MarkedPairs, MarkedFilter, MarkedFilters, rowCount};
 use kinds::filter;
 use kinds::numbers;
 use kinds::pair;
@@ -117,7 +117,8 @@ pub fn of_pairs<'a>(
     pairs: &'a mut PairMarks,
 )
     requires { ⌜ GoodAmong (now parents) (now heads) (now bounds) rows i ⌝ }
-    ensures { λ r. ⌜ MarkedPairs (now (parents .entry)) (now (heads .entry)) (now (bounds .entry)) (now (roots .entry)) rows i (now (pairs .entry)) (now (pairs .exit)) ⌝ }
+    ensures { λ r. ⌜ MarkedPairs (now (parents .entry)) (now (heads .entry)) (now (bounds .entry)) (now (roots .entry)) rows i
+        (now (pairs .entry)) (now (pairs .exit)) ⌝ }
 {
     let p = placed::placed_at(heads, bounds, roots, i);
     let at = ROWS * i;
@@ -128,24 +129,33 @@ pub fn of_pairs<'a>(
     }
 }
 
-// The kinds of row i alone.
+// Row i of `rows` rows, beside `filters` filters, and the caps and the floor that it is held to.
+pub struct Alone {
+    pub caps: Caps,
+    pub floor: Coefficients,
+    pub filters: usize,
+    pub rows: usize,
+    pub i: usize,
+}
+
+// The kinds of a row alone.
 pub fn of_row<'a>(
     parents: &'a PerEntity,
     masks: &'a PerEntity,
-    caps: Caps,
-    floor: Coefficients,
-    filters: usize,
     filter_roots: &'a PerFilter,
     filter_actions: &'a PerFilter,
     heads: &'a Heads,
     bounds: &'a Bounds,
     roots: &'a Roots,
-    rows: usize,
-    i: usize,
+    a: Alone,
 ) -> u32
-    requires { ⌜ GoodAlone (now parents) (now heads) (now bounds) (now roots) filters rows i ⌝ }
-    ensures { λ r. ⌜ MarkedAlone (now (parents .entry)) (now (masks .entry)) caps floor filters (now («filter_roots» .entry)) (now («filter_actions» .entry)) (now (heads .entry)) (now (bounds .entry)) (now (roots .entry)) rows i r ⌝ }
+    requires { ⌜ GoodAlone (now parents) (now heads) (now bounds) (now roots) a ⌝ }
+    ensures { λ r. ⌜ r ≡ aloneMarks (now (parents .entry)) (now (masks .entry)) (now («filter_roots» .entry)) (now («filter_actions» .entry))
+        (now (heads .entry)) (now (bounds .entry)) (now (roots .entry)) a ⌝ }
 {
+    let caps = a.caps;
+    let i = a.i;
+    let rows = a.rows;
     let p = placed::placed_at(heads, bounds, roots, i);
     let r = p.row;
     let mut holds = [false; numbers::KINDS + 1];
@@ -157,9 +167,9 @@ pub fn of_row<'a>(
         caps,
         r,
     );
-    holds[numbers::INADEQUATE] = single::inadequate(floor, r);
+    holds[numbers::INADEQUATE] = single::inadequate(a.floor, r);
     holds[numbers::SUPERFLUOUS] = single::superfluous(heads, bounds, roots, rows, i);
-    holds[numbers::FILTERED] = single::filtered(filter_roots, filter_actions, bounds, filters, r);
+    holds[numbers::FILTERED] = single::filtered(filter_roots, filter_actions, bounds, a.filters, r);
     holds[numbers::LAYER_TWO] = single::layer_two(r);
     holds[numbers::ASYMMETRIC] = single::asymmetric(heads, bounds, rows, i);
     holds[numbers::CYCLIC] = single::cyclic(p);
@@ -212,7 +222,8 @@ pub fn of_filters<'a>(
     pairs: &'a mut PairMarks,
 ) -> u32
     requires { ⌜ (filters ≤ mostFilters) × (length (now pairs) ≡ mostRows * mostRows) ⌝ }
-    ensures { λ r. ⌜ MarkedFilters (now (roots .entry)) (now (actions .entry)) (now (bounds .entry)) filters filters (now (pairs .entry)) (now (pairs .exit)) r ⌝ }
+    ensures { λ r. ⌜ MarkedFilters (now (roots .entry)) (now (actions .entry)) (now (bounds .entry)) filters filters
+        (now (pairs .entry)) (now (pairs .exit)) r ⌝ }
 {
     let mut n = 0;
     let mut k = 0;

@@ -12,7 +12,7 @@ use crate::marks::PairMarks;
 use kinds::numbers;
 use policy::limits::ROWS;
 
-// A block of entries is of so many things, rows or filters, and of so many kinds from one on.
+// A block of entries is of `things` things, rows or filters, and of `kinds` kinds from `kind` on.
 pub struct Block {
     pub things: usize,
     pub kind: u8,
@@ -34,7 +34,7 @@ fn put(out: &mut [u8], n: usize, i: u8, kind: u8, j: u8, listed: bool) -> usize
     n
 }
 
-// Writes the entries of thing i and a kind with each of so many things, after n others. Returns how many there are then; the rest of out is unchanged.
+// Writes the entries of thing i and a kind with each of `things` things, after n others. Returns how many there are then; the rest of out is unchanged.
 fn put_pairs<'a>(
     out: &'a mut [u8],
     n: usize,
@@ -56,7 +56,7 @@ fn put_pairs<'a>(
     m
 }
 
-// Writes the entries of thing i and a kind, with each of so many things and then alone, after n others. Returns how many there are then; the rest
+// Writes the entries of thing i and a kind, with each of `things` things and then alone, after n others. Returns how many there are then; the rest
 // of out is unchanged.
 fn put_kind<'a>(
     out: &'a mut [u8],

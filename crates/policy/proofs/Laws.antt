@@ -1,4 +1,5 @@
 -- The laws that crates above cite.
+pub mod Words
 pub mod Runs
 pub mod Lists
 pub mod Tables

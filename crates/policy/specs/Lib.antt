@@ -2,5 +2,6 @@
 pub mod Limits
 pub mod Model
 pub mod Wellformed
+pub mod Words
 pub mod Views
 pub mod Writes

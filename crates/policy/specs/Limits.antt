@@ -28,15 +28,19 @@ coefficientCount = 3
 abbrev pub fieldCount : ℕ
 fieldCount = 5
 
+-- The bytes of the largest number that a field of the code's packets and ranges can hold.
+abbrev pub numberWidth : ℕ
+numberWidth = 16
+
 -- ---- the runs of a table
 
 -- The selectors of the rows, and after them those of the filters.
 abbrev pub mostSelectors : ℕ
 mostSelectors = mostRows + mostFilters
 
--- A selector's numbers: low and high of each field.
-abbrev pub boundCount : ℕ
-boundCount = 2 * fieldCount
+-- A selector's words: two for each bound of the two addresses, one for the ports, one for the protocol.
+abbrev pub wordCount : ℕ
+wordCount = 2 * 4 + 1 + 1
 
 -- A row's bytes besides its selector: holder, source, destination, technology, coefficients, the number of gateways, gateways.
 abbrev pub headCount : ℕ

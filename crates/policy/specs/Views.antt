@@ -5,8 +5,9 @@ use mathlib.Core.Path.{_≡_}
 use mathlib.Core.List.{List, [], _∷_, _++_, map}
 use lib.ListN.{getD, take, drop}
 use Rattle.base.specs.Lists.{tabulate}
-use Rattle.policy.specs.Limits.{mostEntities, technologies, mostFilters, mostRows, fieldCount, headCount}
-use Rattle.policy.specs.Model.{Entity, Coefficients, Range, Selector, Packet, Filter, Row, Table, noParent, extended}
+use Rattle.policy.specs.Limits.{mostEntities, technologies, mostFilters, mostRows, fieldCount, headCount, wordCount}
+use Rattle.policy.specs.Model.{Entity, Coefficients, Range, Selector, Packet, Filter, Row, Table, noParent, noRange, extended}
+use Rattle.policy.specs.Words.{ofWords, selectorOfWords}
 use Rattle.policy.specs.declared.number.Number.{Number as NumberStruct}
 use Rattle.policy.specs.declared.selector.Range.{Range as RangeStruct}
 use Rattle.policy.specs.declared.selector.Selector.{Selector as SelectorStruct}
@@ -19,9 +20,9 @@ use Rattle.policy.specs.declared.table.Table.{Table as TableStruct}
 
 -- ---- small structs
 
--- The number that a Number is. Nothing above this crate unfolds it.
+-- The number that a Number is: that of its two words. Nothing above this crate unfolds it.
 unfoldable pub value : NumberStruct → ℕ
-value n = n .word
+value n = ofWords (n .upper) (n .lower)
 
 abbrev pub rangeOf : RangeStruct → Range
 rangeOf r = record { low = value (r .low); high = value (r .high) }
@@ -74,27 +75,19 @@ parentIn parents e = getD parents e noParent
 abbrev pub entityIn : List ℕ → List ℕ → List ℕ → ℕ → Entity
 entityIn parents layers masks e = record { parent = getD parents e 0; layer = getD layers e 0; mask = getD masks e 0 }
 
--- The range at m of a run of bounds: its low, then its high.
-unfoldable pub rangeAt : List ℕ → ℕ → Range
-rangeAt bounds m = record { low = getD bounds (2 * m) 0; high = getD bounds (2 * m + 1) 0 }
+-- The numbers of the thing at i of a run of things with n numbers each.
+unfoldable pub numbersAt : ℕ → List ℕ → ℕ → List ℕ
+numbersAt n run i = tabulate (λ c. getD run (n * i + c) 0) n
 
--- The selector at k of a run of selectors with n fields each.
-abbrev pub selectorAt : ℕ → List ℕ → ℕ → Selector
-selectorAt n bounds k = tabulate (λ f. rangeAt bounds (n * k + f)) n
-
--- Field f of the selector at k.
+-- Field f of the selector at k of a run of selectors.
 unfoldable pub rangeIn : List ℕ → ℕ → ℕ → Range
-rangeIn bounds k f = rangeAt bounds (fieldCount * k + f)
+rangeIn bounds k f = getD (selectorOfWords (numbersAt wordCount bounds k)) f noRange
 
 abbrev pub selectorIn : List ℕ → ℕ → Selector
 selectorIn bounds k = tabulate (rangeIn bounds k) fieldCount
 
 abbrev pub filterIn : (roots actions bounds : List ℕ) → ℕ → Filter
 filterIn roots actions bounds k = record { root = getD roots k 0; selector = selectorIn bounds (mostRows + k); action = getD actions k 0 }
-
--- The numbers of the thing at i of a run of things with n numbers each.
-unfoldable pub numbersAt : ℕ → List ℕ → ℕ → List ℕ
-numbersAt n run i = tabulate (λ c. getD run (n * i + c) 0) n
 
 -- The bytes of the row at i besides its selector.
 abbrev pub headIn : List ℕ → ℕ → List ℕ

@@ -5,7 +5,7 @@ use mathlib.Core.Path.{_≡_}
 use mathlib.Core.Logic.{_⊎_}
 use mathlib.Core.List.{List, [], _∷_, List·Memᴰ}
 use lib.ListN.{length, getD}
-use Rattle.policy.specs.Limits.{mostEntities, technologies, mostFilters, mostRows, mostGateways, coefficientCount}
+use Rattle.policy.specs.Limits.{technologies, mostGateways, coefficientCount}
 use Rattle.policy.specs.Model.{Entity, Coefficients, Selector, Filter, Row, Table, noParent, passing, noFilter, entityAt, rowAt}
 
 -- "A root (a network node) has parent FF and layer 0 .. bits 0 and 7 are 0."
@@ -53,13 +53,13 @@ Fits [] (r ∷ s) = ⊥
 Fits (w ∷ ws) [] = ⊥
 Fits (w ∷ ws) (r ∷ s) = (r .high < 256 ^ w) × Fits ws s
 
--- "source address (4 bytes each), destination address (4), source port (2), destination port (2), protocol (1)"
-abbrev pub widths : List ℕ
-widths = 4 ∷ 4 ∷ 2 ∷ 2 ∷ 1 ∷ []
+-- How large the numbers of a table's ranges can be, in bytes: two addresses, two ports, the protocol.
+abbrev pub rangeWidths : List ℕ
+rangeWidths = 4 ∷ 4 ∷ 2 ∷ 2 ∷ 1 ∷ []
 
 pub record SelectorRule (s : Selector) : Type 0 where
   pub ordered : Ordered s
-  pub fits : Fits widths s
+  pub fits : Fits rangeWidths s
 
 pub record FilterRule (t : Table) (f : Filter) : Type 0 where
   pub root : IsRoot t (f .root)
@@ -79,15 +79,19 @@ pub record RowRule (t : Table) (r : Row) : Type 0 where
   pub few-gateways : length (r .gateways) ≤ mostGateways
   pub gateways : (k : ℕ) → k < length (r .gateways) → IsRoot t (getD (r .gateways) k 0)
 
--- "1 to 128 entities, six caps .., one floor, 0 to 32 filters, 0 to 64 rows"
-pub record Wellformed (t : Table) : Type 0 where
+-- "Sequence: 1 to 128 entities, six caps .., one floor, 0 to 32 filters, 0 to 64 rows."
+pub record Counts (t : Table) : Type 0 where
   pub some-entity : 1 ≤ length (t .entities)
-  pub few-entities : length (t .entities) ≤ mostEntities
+  pub few-entities : length (t .entities) ≤ 128
+  pub six-caps : length (t .caps) ≡ 6
+  pub few-filters : length (t .filters) ≤ 32
+  pub few-rows : length (t .rows) ≤ 64
+
+-- There are as many of each as there may be, and each keeps its rules.
+pub record Wellformed (t : Table) : Type 0 where
+  pub counts : Counts t
   pub entity : (k : ℕ) → IsEntity t k → EntityRule t k
-  pub six-caps : length (t .caps) ≡ technologies
   pub cap : (k : ℕ) → k < technologies → CoefficientsRule (getD (t .caps) k [])
   pub floor : CoefficientsRule (t .floor)
-  pub few-filters : length (t .filters) ≤ mostFilters
   pub filter : (k : ℕ) → k < length (t .filters) → FilterRule t (getD (t .filters) k noFilter)
-  pub few-rows : length (t .rows) ≤ mostRows
   pub row : (i : ℕ) → i < length (t .rows) → RowRule t (rowAt t i)

@@ -14,8 +14,8 @@ pub const FIELDS: usize = 5;
 // The selectors of the rows, and after them those of the filters.
 pub const SELECTORS: usize = ROWS + FILTERS;
 
-// A selector's numbers: low and high of each field.
-pub const BOUND_COUNT: usize = 2 * FIELDS;
+// A selector's words.
+pub const WORD_COUNT: usize = 10;
 
 // A row's bytes besides its selector.
 pub const HEAD_COUNT: usize = 8 + GATEWAYS;

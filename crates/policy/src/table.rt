@@ -4,16 +4,17 @@ ghost use mathlib.Core.Path.{_≡_};
 ghost use Prim.Native.Nat.{_+_, _*_, _<_, _≤_};
 ghost use Rattle.policy.specs.Limits.{mostEntities, technologies, mostFilters, mostRows, mostSelectors, fieldCount};
 ghost use Rattle.policy.specs.Views.{rangeOf, selectorOf, rowOf, filterOf, coefficientsOf, entityOf, rangeIn, selectorIn, filterIn, rowIn, tableOf, Held, Stands, noTable, withEntity, withCap, withFloor, withFilter, withRow};
-ghost use Rattle.policy.specs.Writes.{putRange, putSelector, putHead};
-use crate::limits::BOUND_COUNT;
+ghost use Rattle.policy.specs.Words.{packedRange, unpackedRange, Packs};
+ghost use Rattle.policy.specs.Wellformed.{SelectorRule};
+ghost use Rattle.policy.specs.Writes.{putSelector, putHead};
 use crate::limits::ENTITIES;
-use crate::limits::FIELDS;
 use crate::limits::FILTERS;
 use crate::limits::HEAD_COUNT;
 use crate::limits::NO_PARENT;
 use crate::limits::ROWS;
 use crate::limits::SELECTORS;
 use crate::limits::TECHNOLOGIES;
+use crate::limits::WORD_COUNT;
 use crate::number::Number;
 use crate::row::Coefficients;
 use crate::row::Entity;
@@ -33,8 +34,8 @@ pub type Caps = [Coefficients; TECHNOLOGIES];
 // So many bytes for each row: holder, source, destination, technology, three coefficients, the number of gateways, eight gateways.
 pub type Heads = [u8; HEAD_COUNT * ROWS];
 
-// Low and high of each field, for each selector: first the rows' selectors, then the filters'.
-pub type Bounds = [u64; BOUND_COUNT * SELECTORS];
+// Ten words for each selector, as specs/Words.antt lays them out: first the rows' selectors, then the filters'.
+pub type Bounds = [u64; WORD_COUNT * SELECTORS];
 
 pub struct Table {
     // how many entities there are, and of each its parent, layer and mask
@@ -66,16 +67,49 @@ pub fn lines_before(entities: usize, caps: usize, floored: u8, filters: usize) -
     entities + caps + floored as usize + filters
 }
 
+// How many values the bounds of a port have in their word, those of the protocol, and those of one port together.
+const PORT_SIZE: u64 = 65536;
+
+const PORTS_SIZE: u64 = PORT_SIZE * PORT_SIZE;
+
+const PROTOCOL_SIZE: u64 = 4294967296;
+
+// The words of a selector that hold the ports, and the protocol. Those of the addresses come before them, four each.
+const PORTS: usize = 8;
+
+const PROTOCOL: usize = 9;
+
+// A range that one word holds, whose high is below size.
+fn unpacked(word: u64, size: u64) -> Range
+    requires { ⌜ 0 < size ⌝ }
+    ensures { λ r. ⌜ rangeOf r ≡ unpackedRange size word ⌝ }
+{
+    Range {
+        low: Number::new(word / size),
+        high: Number::new(word % size),
+    }
+}
+
 // Field f of the selector at k.
 pub fn range_at(bounds: &Bounds, k: usize, f: usize) -> Range
     requires { ⌜ (k < mostSelectors) × (f < fieldCount) ⌝ }
     ensures { λ r. ⌜ rangeOf r ≡ rangeIn (now (bounds .entry)) k f ⌝ }
 {
-    let at = 2 * (FIELDS * k + f);
-    Range {
-        low: Number::new(bounds[at]),
-        high: Number::new(bounds[at + 1]),
+    let at = WORD_COUNT * k;
+    if f < 2 {
+        let place = at + 4 * f;
+        return Range {
+            low: Number::of_words(bounds[place], bounds[place + 1]),
+            high: Number::of_words(bounds[place + 2], bounds[place + 3]),
+        };
     }
+    if f == 2 {
+        return unpacked(bounds[at + PORTS] / PORTS_SIZE, PORT_SIZE);
+    }
+    if f == 3 {
+        return unpacked(bounds[at + PORTS] % PORTS_SIZE, PORT_SIZE);
+    }
+    unpacked(bounds[at + PROTOCOL], PROTOCOL_SIZE)
 }
 
 // The selector at k.
@@ -140,26 +174,33 @@ pub fn filter_at<'a>(
     }
 }
 
-// Writes field f of the selector at k, and changes nothing else.
-fn put_range(bounds: &mut Bounds, k: usize, f: usize, r: Range)
-    requires { ⌜ (k < mostSelectors) × (f < fieldCount) ⌝ }
-    ensures { λ _. ⌜ now (bounds .exit) ≡ putRange (now (bounds .entry)) (fieldCount * k + f) (rangeOf r) ⌝ }
+// A range as one word, whose bounds are below size.
+fn packed(r: Range, size: u64) -> u64
+    requires { ⌜ Packs size (rangeOf r) ⌝ }
+    ensures { λ n. ⌜ n ≡ packedRange size (rangeOf r) ⌝ }
 {
-    let at = 2 * (FIELDS * k + f);
-    bounds[at] = r.low.as_word();
-    bounds[at + 1] = r.high.as_word();
+    r.low.lower_word() * size + r.high.lower_word()
 }
 
 // Writes the selector at k, and changes nothing else.
 fn put_selector(bounds: &mut Bounds, k: usize, s: Selector)
-    requires { ⌜ k < mostSelectors ⌝ }
+    requires { ⌜ (k < mostSelectors) × SelectorRule (selectorOf s) ⌝ }
     ensures { λ _. ⌜ now (bounds .exit) ≡ putSelector (now (bounds .entry)) k (selectorOf s) ⌝ }
 {
-    put_range(bounds, k, 0, s.source_address);
-    put_range(bounds, k, 1, s.destination_address);
-    put_range(bounds, k, 2, s.source_port);
-    put_range(bounds, k, 3, s.destination_port);
-    put_range(bounds, k, 4, s.protocol);
+    let at = WORD_COUNT * k;
+    let from = s.source_address;
+    let to = s.destination_address;
+    bounds[at] = from.low.upper_word();
+    bounds[at + 1] = from.low.lower_word();
+    bounds[at + 2] = from.high.upper_word();
+    bounds[at + 3] = from.high.lower_word();
+    bounds[at + 4] = to.low.upper_word();
+    bounds[at + 5] = to.low.lower_word();
+    bounds[at + 6] = to.high.upper_word();
+    bounds[at + 7] = to.high.lower_word();
+    bounds[at + PORTS] = packed(s.source_port, PORT_SIZE) * PORTS_SIZE
+        + packed(s.destination_port, PORT_SIZE);
+    bounds[at + PROTOCOL] = packed(s.protocol, PROTOCOL_SIZE);
 }
 
 // Writes the bytes of the row at i besides its selector, and changes nothing else.
@@ -198,7 +239,7 @@ impl Table {
             filter_actions: [0; FILTERS],
             rows: 0,
             heads: [0; HEAD_COUNT * ROWS],
-            bounds: [0; BOUND_COUNT * SELECTORS],
+            bounds: [0; WORD_COUNT * SELECTORS],
         }
     }
 
@@ -237,7 +278,7 @@ impl Table {
 
     // The table with one filter more.
     pub fn with_filter(mut self, f: Filter) -> Table
-        requires { ⌜ Held self × (self .filters < mostFilters) ⌝ }
+        requires { ⌜ Held self × (self .filters < mostFilters) × SelectorRule (selectorOf (f .selector)) ⌝ }
         ensures { λ r. ⌜ Stands r (withFilter (filterOf f) (tableOf self)) ⌝ }
     {
         let k = self.filters;
@@ -250,7 +291,7 @@ impl Table {
 
     // The table with one row more.
     pub fn with_row(mut self, r: Row) -> Table
-        requires { ⌜ Held self × (self .rows < mostRows) ⌝ }
+        requires { ⌜ Held self × (self .rows < mostRows) × SelectorRule (selectorOf (r .selector)) ⌝ }
         ensures { λ r'. ⌜ Stands r' (withRow (rowOf r) (tableOf self)) ⌝ }
     {
         let i = self.rows;

@@ -8,13 +8,15 @@ ghost use lib.Dec.{ltb};
 ghost use lib.ListN.{length};
 ghost use lib.Seq.{sets};
 ghost use Rattle.policy.specs.Views.{value, rangeOf};
-ghost use Rattle.frames.specs.Parts.{mostWidth};
+ghost use Rattle.policy.specs.Limits.{numberWidth};
 ghost use Rattle.prefixes.specs.Prefixes.{aloneIf, raised, pairs as pairsOf};
 ghost use Rattle.prefixes.specs.Bytes.{prefixBytes, Puts, prefixesIn, Held, Room};
 use base::Written;
-use frames::parts;
 use policy::number::Number;
 use policy::selector::Range;
+
+// The bytes of an address in a prefix.
+pub const ADDRESS_BYTES: usize = 4;
 
 // A range of addresses, and how many bits each has.
 struct Addresses {
@@ -58,7 +60,7 @@ fn count(a: Addresses) -> usize
     n + base::bit(rest.range.low.at_most(rest.range.high))
 }
 
-// Writes a prefix of so many bits into out, after `at` others, if it is to be there: n and then zeros, in as many bytes as the addresses of `whole` have,
+// Writes a prefix of `bits` bits into out, after `at` others, if it is to be there: n and then zeros, in as many bytes as the addresses of `whole` have,
 // and the number of bits. The rest of out is unchanged.
 fn put_if(there: bool, n: Number, bits: usize, whole: Addresses, out: &mut [u8], at: usize)
     requires { ⌜ Room there n bits whole (now out) at ⌝ }
@@ -68,15 +70,15 @@ fn put_if(there: bool, n: Number, bits: usize, whole: Addresses, out: &mut [u8],
         let bytes = whole.bits / 8;
         let place = (bytes + 1) * at;
         let address = n.raised(whole.bits - bits, whole.range.high);
-        parts::put_number(address, bytes, out, place);
+        address.put(bytes, out, place);
         out[place + bytes] = bits as u8;
     }
 }
 
-// Writes the range's prefixes into out from its start, ascending, if there is room for all: so many bytes of an address, and the length. Returns how many
+// Writes the range's prefixes into out from its start, ascending, if there is room for all: `bytes` bytes of an address, and the length. Returns how many
 // there are. The rest of out is unchanged, and all of it where it is too short.
 pub fn put(r: Range, bytes: usize, out: &mut [u8]) -> Written
-    requires { ⌜ (value (r .high) < 2 ^ (8 * bytes)) × (bytes ≤ mostWidth) ⌝ }
+    requires { ⌜ (value (r .high) < 2 ^ (8 * bytes)) × (bytes ≤ numberWidth) ⌝ }
     ensures { λ w. ⌜ Puts bytes (rangeOf r) (now (out .entry)) (now (out .exit)) w ⌝ }
 {
     let whole = Addresses {

@@ -66,6 +66,6 @@ strikePrints input = printed (struckPrinted input (parse input)) input
 pub record Prints (result before after : List ℕ) (n : ℕ) : Type 0 where
   pub output : after ≡ written result before
   pub answer : n ≡ pick (fits result before) (length result) 0
-  -- so many bytes stand in the output; in two ways, as a caller that takes this part of it is asked
+  -- the first n bytes stand in the output; in two ways, as a caller that takes this part of it is asked
   pub within : n ≤ length after
   pub part : n ≡ length (take n after)

@@ -19,7 +19,7 @@ pub record EntryLines : Type 0 where
   pub more : (i kind j : ℕ) (l : List Entry)
       → entryLines (entry i kind j ∷ l) ≡ digitsOf i ++ (digitsOf kind ++ (digitsOf j ++ (10 ∷ entryLines l)))
 
--- A program that prints this of its input, and `ofTable` of an accepted text; its output has so many bytes.
+-- A program that prints this of its input, and `ofTable` of an accepted text; its output has `space` bytes.
 pub record ProgramPromise (prints : List ℕ → List ℕ) (ofTable : List ℕ → Table → List ℕ) (space : ℕ) : Type 0 where
   -- "Both read standard input of up to 16 KiB .. longer input prints !00": of one byte more than that, or of all
   pub longer : (input : List ℕ) (read : ℕ) → 16385 ≤ read → 16384 < length input → prints (take read input) ≡ 33 ∷ 48 ∷ 48 ∷ 10 ∷ []

@@ -11,9 +11,10 @@ use Rattle.hex.specs.Digits.{digitValue, Decimal, Capital, Digit, digitsOf}
 use Rattle.hex.specs.Lines.{NoLine, isLine, bytesOf}
 use Rattle.hex.specs.Numbers.{numberOf}
 use Rattle.policy.specs.Model.{Coefficients, Entity, Range, Selector, Filter, Row, Table, dropping, passing, entityAt}
-use Rattle.policy.specs.Wellformed.{RootRule, OtherRule, IsEntity, IsRoot, widths, FilterRule, RowRule}
+use Rattle.policy.specs.Wellformed.{RootRule, OtherRule, IsEntity, IsRoot, FilterRule, RowRule}
 use Rattle.base.specs.Truths.{Decides}
 use Rattle.base.specs.Answers.{returned, refusedBy}
+use Rattle.frames.specs.Parts.{boxWidths}
 use Rattle.frames.specs.Kinds.{ofEntity, ofCap, ofFloor, ofFilter, ofRow, describe}
 use Rattle.reader.specs.Lines.{linesOf, restOf, textOf}
 use Rattle.reader.specs.Frames.{Frame, aFrame, frameOf}
@@ -143,7 +144,7 @@ pub record Reading : Type 0 where
       ∷ aFrame ofFloor floor
       ∷ (map (aFrame ofFilter) filters ++ map (aFrame ofRow) rows))
   -- "source address (4 bytes each), destination address (4), source port (2), destination port (2), protocol (1)"
-  pub box : widths ≡ 4 ∷ 4 ∷ 2 ∷ 2 ∷ 1 ∷ []
+  pub box : boxWidths ≡ 4 ∷ 4 ∷ 2 ∷ 2 ∷ 1 ∷ []
   -- request [7]: "0 to drop and 1 to pass"
   pub actions : (dropping ≡ 0) × (passing ≡ 1)
   -- "A root (a network node) has parent FF and layer 0."

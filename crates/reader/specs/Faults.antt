@@ -4,10 +4,10 @@
 use Prim.Native.Nat.{ℕ, zero, suc, _+_, _≤_, _<_}
 use mathlib.Core.Path.{_≡_}
 use mathlib.Core.List.{List, [], _∷_, _++_, List·Memᴰ}
-use lib.ListN.{length}
 use Rattle.hex.specs.Lines.{NoLine, bytesOf}
 use Rattle.policy.specs.Model.{Coefficients, Table}
-use Rattle.frames.specs.Faults.{Judged, nothingJudged, ContentFault}
+use Rattle.policy.specs.Wellformed.{Counts}
+use Rattle.frames.specs.Faults.{Claim, ContentFault}
 use Rattle.frames.specs.Progress.{Progress, nothing}
 use Rattle.frames.specs.Kinds.{ofFloor, describe}
 use Rattle.reader.specs.Lines.{linesOf, restOf}
@@ -16,15 +16,7 @@ use Rattle.reader.specs.Forms.{HasForm}
 use Rattle.reader.specs.States.{grown}
 use Rattle.reader.specs.Rules.{framesOf}
 
--- "Sequence: 1 to 128 entities, six caps .., one floor, 0 to 32 filters, 0 to 64 rows."
-pub record Counts (t : Table) : Type 0 where
-  pub some-entity : 1 ≤ length (t .entities)
-  pub few-entities : length (t .entities) ≤ 128
-  pub six-caps : length (t .caps) ≡ 6
-  pub few-filters : length (t .filters) ≤ 32
-  pub few-rows : length (t .rows) ≤ 64
-
--- The sequence can go on after these frames: they, and some further ones, are those of a table with so many of each.
+-- The sequence can go on after these frames: they, and some further ones, are those of a table with as many of each as there may be.
 pub record Begins (fs : List Frame) : Type 0 where
   pub further : List Frame
   pub table : Table
@@ -36,9 +28,9 @@ abbrev pub readFrames : Progress → List Frame → Progress
 readFrames p [] = p
 readFrames p (f ∷ fs) = readFrames (grown p f) fs
 
-abbrev pub judgedOf : Frame → Judged
+abbrev pub judgedOf : Frame → List Claim
 judgedOf (aFrame k v) = describe k .judged v
-judgedOf noFrame = nothingJudged
+judgedOf noFrame = []
 
 -- A fault of a line, after the frames of the lines before it.
 pub data Fault (before : List Frame) (line : List ℕ) : ℕ → Type 0 where

@@ -4,10 +4,12 @@ use Prim.Native.Nat.{ℕ, suc}
 use mathlib.Core.Path.{_≡_}
 use mathlib.Core.Bool.{true}
 use mathlib.Core.List.{List, [], _∷_, _++_, map, List·Memᴰ}
+use lib.ListN.{replicate}
 use Rattle.hex.specs.Lines.{isLine, bytesOf}
 use Rattle.policy.specs.Model.{Coefficients, Row, Table}
 use Rattle.policy.specs.Wellformed.{Wellformed}
 use Rattle.reader.specs.Lines.{linesOf, restOf}
+use Rattle.frames.specs.Progress.{Progress, allRead}
 use Rattle.frames.specs.Kinds.{ofEntity, ofCap, ofFloor, ofFilter}
 use Rattle.reader.specs.Frames.{Frame, aFrame, aRow, frameOf}
 
@@ -17,11 +19,16 @@ capFrames technology [] = []
 capFrames technology (c ∷ cs) =
     aFrame ofCap (record { technology = technology; coefficients = c }) ∷ capFrames (suc technology) cs
 
--- "Sequence: .. entities, six caps .., one floor, .. filters, .. rows."
+-- "Sequence: .. entities, six caps .., one floor, .. filters, .. rows." The frames of what has been read, with the floor or before it.
+abbrev pub framesSoFar : Progress → List Frame
+framesSoFar p =
+    map (aFrame ofEntity) (p .table .entities)
+    ++ (capFrames 1 (p .table .caps)
+    ++ (replicate (p .floored) (aFrame ofFloor (p .table .floor)) ++ (map (aFrame ofFilter) (p .table .filters) ++ map aRow (p .table .rows))))
+
+-- The frames of a whole table.
 abbrev pub framesOf : Table → List Frame
-framesOf t =
-    map (aFrame ofEntity) (t .entities)
-    ++ (capFrames 1 (t .caps) ++ (aFrame ofFloor (t .floor) ∷ (map (aFrame ofFilter) (t .filters) ++ map aRow (t .rows))))
+framesOf t = framesSoFar (allRead t)
 
 -- The text is these frames, a line each.
 pub record HasFrames (text : List ℕ) (fs : List Frame) : Type 0 where

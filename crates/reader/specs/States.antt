@@ -23,7 +23,7 @@ pub record Parsed : Type 0 where
 abbrev pub tableRead : Table → Parsed
 tableRead t = record { table = t }
 
--- After so many lines, or refused at a line.
+-- After n lines, or refused at a line.
 pub data State : Type 0 where
   reading : ℕ → Progress → State
   refused : ℕ → ℕ → State

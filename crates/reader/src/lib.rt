@@ -218,7 +218,7 @@ pub fn read(text: &[u8]) -> Reader
     r.refuse(refusals::OUT_OF_SEQUENCE)
 }
 
-// The line at place n, without its line feed: a part of the text. The empty part where there are not so many lines.
+// The line at place n, without its line feed: a part of the text. The empty part where there are n lines or fewer.
 pub fn nth_line(text: &[u8], n: usize) -> &[u8]
     ensures { λ r. ⌜ now r ≡ getD (linesOf (now (text .entry))) n [] ⌝ }
 {

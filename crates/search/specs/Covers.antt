@@ -9,8 +9,9 @@ use lib.Bits.{bitAnd}
 use lib.Dec.{eqb, ltb}
 use lib.ListN.{getD}
 use Rattle.base.specs.Truths.{pick}
-use Rattle.policy.specs.Model.{Selector}
+use Rattle.policy.specs.Model.{Range, Selector}
 use Rattle.policy.specs.Views.{rangeIn}
+use Rattle.relations.specs.Ranges.{Within}
 use Rattle.covers.specs.Sets.{In, fieldOf}
 use Rattle.covers.specs.Views.{NextValue, comes, end}
 
@@ -45,18 +46,26 @@ pub record Follows (high : ℕ → ℕ) (set top : ℕ) (n : NextValue) : Type 0
 abbrev pub opening : ℕ → ℕ → NextValue
 opening cover low = pick (eqb cover 0) (comes low) end
 
--- One box of the set alone, and none of them has a greater high.
-pub record Furthest (high : ℕ → ℕ) (set one : ℕ) : Type 0 where
+-- Of the boxes of the set those whose field holds v.
+abbrev pub Holding : (field : ℕ → Range) (set v k : ℕ) → Type 0
+Holding field set v k = In set k × Within (field k) v
+
+-- One of these alone, and none of them has a greater high.
+pub record Furthest (field : ℕ → Range) (set v one : ℕ) : Type 0 where
   pub place : ℕ
   pub alone : one ≡ 2 ^ place
-  pub among : In set place
-  pub furthest : (k : ℕ) → In set k → high k ≤ high place
+  pub among : Holding field set v place
+  pub furthest : (k : ℕ) → Holding field set v k → field k .high ≤ field place .high
+
+-- Such a box, or 0 where none of the set holds v.
+abbrev pub FurthestIfAny : (field : ℕ → Range) (set v one : ℕ) → Type 0
+FurthestIfAny field set v one = Furthest field set v one ⊎ ((one ≡ 0) × ((k : ℕ) → Holding field set v k → ⊥))
 
 -- ---- covers that are kept
 
 -- How many are kept for a field.
 abbrev pub keptCovers : ℕ
-keptCovers = 32
+keptCovers = 16
 
 -- The first of the kept covers whose boxes are all in the set. 0 stands for no cover, and ends them.
 unfoldable pub recall : ℕ → List ℕ → ℕ

@@ -4,7 +4,7 @@ ghost use lib.ListN.{length};
 ghost use Rattle.search.specs.Covers.{keptCovers, recall, shifted};
 
 // How many are kept.
-pub const COVERS: usize = 32;
+pub const COVERS: usize = 16;
 
 pub type Kept = [u64; COVERS];
 

@@ -58,7 +58,7 @@ fn fewer(n: u64) -> u64
 
 // Walks through the selector at `row`, from its field `lead` on: candidates field by field, left by the label when the first packet is met that no box of
 // the cover has. Of each field, a is the boxes that hold the packet so far, and k the cover of the values that came to nothing, which is kept for the
-// packets to come. Stops at so many values of the fourth field as limit says, if that is not 0.
+// packets to come. Stops at `limit` values of the fourth field, if that is not 0.
 pub fn walk(bounds: &Bounds, row: usize, cover: Boxes, lead: usize, limit: u64) -> Ended
     requires { ⌜ (row < mostSelectors) × BoxNumbers cover × (lead < fieldCount) ⌝ }
     ensures { λ r. ⌜ Tells limit (searched (turned lead (selectorIn (now (bounds .entry)) row)) (map (turned lead) (boxesAt (now (bounds .entry)) cover 0))) r ⌝ }
@@ -116,8 +116,8 @@ pub fn walk(bounds: &Bounds, row: usize, cover: Boxes, lead: usize, limit: u64) 
                         let Next::Value(v4) = n4 else {
                             break;
                         };
-                        let a5 = set::holding(bounds, &at, f4, v4, a4);
-                        if a5 == 0 {
+                        let k5 = reach::furthest(bounds, &at, f4, v4, a4);
+                        if k5 == 0 {
                             break 'search Ended::Free(Values {
                                 first: v0,
                                 second: v1,
@@ -126,7 +126,6 @@ pub fn walk(bounds: &Bounds, row: usize, cover: Boxes, lead: usize, limit: u64) 
                                 fifth: v4,
                             });
                         }
-                        let k5 = reach::furthest(bounds, &at, f4, a5);
                         k4 = k4 | k5;
                         n4 = reach::following(bounds, &at, f4, k5, r4.high);
                     }

@@ -7,7 +7,7 @@ use Rattle.policy.specs.Model.{Table, linesBefore}
 use Rattle.reader.specs.Lines.{linesOf, textOf}
 use Rattle.striking.specs.Striking.{kept}
 
--- Of lines of which so many stand before the rows: those, and the lines of the rows of these numbers, as they were written.
+-- Of lines of which `before` stand before the rows: those, and the lines of the rows of these numbers, as they were written.
 abbrev pub keptLines : ℕ → List ℕ → List (List ℕ) → List (List ℕ)
 keptLines before rows lines = take before lines ++ map (λ i. getD lines (before + i) []) rows
 

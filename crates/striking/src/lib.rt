@@ -33,7 +33,7 @@ fn dead_rows(t: Table) -> Flags
     dead
 }
 
-// Whether the line at place n is kept, with so many others before the rows.
+// Whether the line at place n is kept, with `others` lines before the rows.
 fn keeps(dead: &Flags, others: usize, n: usize) -> bool
     ensures { λ r. ⌜ r ≡ keepsTest (now (dead .entry)) others n ⌝ }
 {

@@ -25,10 +25,6 @@ use Rattle.analyser.proofs.Laws.Outputs.{call-broken, call-asked, call-
 abbrev pub Does : Answer Parsed → (i j : ℕ) → List ℕ → Answer ℕ → List ℕ → Type 0
 Does x i j out answer after = (joinOf x i j out ≡ answer) × (joinWritten x i j out ≡ after)
 
-pub join-refused : (x : Answer Parsed) (i j : ℕ) (out : List ℕ) (number line : ℕ) → x ≡ refusedBy number line → Does x i j out (refusedBy number line) out
-unfolding joinOf joinWritten
-join-refused x i j out number line e = rw e (refl, refl)
-
 module _ (x : Answer Parsed) (t : Table) (e : x ≡ returned (tableRead t)) (i j : ℕ) (out : List ℕ) where
   pub join-no-row : ((i < length (t .rows)) × (j < length (t .rows)) → ⊥) → Does x i j out (refusedBy 9 0) out
   unfolding joinOf joinWritten

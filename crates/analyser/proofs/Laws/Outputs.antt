@@ -3,7 +3,7 @@
 --   call-broken: what such a call does, of a text that is accepted, where another condition is broken
 --   call-asked, call-writes: where none is, and the result is written if it fits
 --   call-short, call-whole: its answer and output, for an output too short, and for one with room
---   list-short, list-whole, strike-short, strike-whole: the same of List and Strike
+--   list-short, list-whole, list-writes, strike-short, strike-whole, strike-writes: the same of List and Strike
 --   list-told, list-refused, strike-told, strike-refused: why List and Strike answer as they do
 --   list-wrote, strike-wrote, strike-left: what they leave in the output, where they tell a number, and where they refuse
 --   count-fits: as many entries as are counted have room
@@ -47,6 +47,10 @@ module _ (result out : List ℕ) where
   no-room n (inr h) = absurd (h .1)
 
 -- ---- a call
+
+-- Its answer and its output, each the other way round.
+pub turned : {A B : Type 0} {a b : A} {c d : B} → (a ≡ b) × (c ≡ d) → (b ≡ a) × (d ≡ c)
+turned p = (sym (p .0), sym (p .1))
 
 module _ {A : Type 0} (conditions : Table → List Check) (result : A → List ℕ) (tell : A → ℕ) (value : Table → A) (out : List ℕ) where
   abbrev pub answerTo : Answer Parsed → Answer ℕ
@@ -108,6 +112,11 @@ module _ (x : Answer Parsed) (out : List ℕ) where
     unfolding listOf listWritten
     list-whole h = call-whole noConditions bytes length entries out x t e tt h
 
+    pub list-writes : (after : List ℕ) (r : Written) → WritesCounted (length (entries t)) (bytes (entries t)) out after r
+        → (roomAnswer r ≡ listOf x out) × (after ≡ listWritten x out)
+    unfolding listOf listWritten
+    list-writes after r w = call-writes noConditions bytes length entries out x t e tt after r w
+
   pub list-told : (n : ℕ) → listOf x out ≡ returned n → Told listConditions entriesRead length x n
   unfolding listOf
   list-told n e = told-why listConditions entriesRead length x n e
@@ -147,6 +156,11 @@ module _ (text : List ℕ) (x : Answer Parsed) (out : List ℕ) where
         × (strikeWritten text x out ≡ struckText text t ++ drop (length (struckText text t)) out)
     unfolding strikeOf strikeWritten
     strike-whole h = call-whole noConditions (λ l. l) length (struckText text) out x t e tt h
+
+    pub strike-writes : (after : List ℕ) (r : Written) → WritesCounted (length (struckText text t)) (struckText text t) out after r
+        → (roomAnswer r ≡ strikeOf text x out) × (after ≡ strikeWritten text x out)
+    unfolding strikeOf strikeWritten
+    strike-writes after r w = call-writes noConditions (λ l. l) length (struckText text) out x t e tt after r w
 
   pub strike-told : (n : ℕ) → strikeOf text x out ≡ returned n → Told strikeConditions struckRead length x n
   unfolding strikeOf

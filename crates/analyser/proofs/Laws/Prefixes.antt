@@ -14,10 +14,10 @@ use Rattle.base.specs.declared.Written.{Written}
 use Rattle.base.proofs.Laws.Answers.{Kept}
 use Rattle.policy.specs.Model.{Selector, Table}
 use Rattle.policy.specs.Wellformed.{SelectorRule}
-use Rattle.prefixes.specs.Bytes.{prefixBytes}
+use Rattle.prefixes.specs.Bytes.{addressBytes, prefixBytes}
 use Rattle.prefixes.specs.Sides.{sideOf}
 use Rattle.reader.specs.States.{Parsed, tableRead}
-use Rattle.analyser.specs.Calls.{addressBytes, rowPrefixes, prefixConditions, prefixesOf, prefixesWritten}
+use Rattle.analyser.specs.Calls.{rowPrefixes, prefixConditions, prefixesOf, prefixesWritten}
 use Rattle.analyser.specs.Views.{roomAnswer}
 use Rattle.analyser.proofs.Laws.Outputs.{call-broken, call-writes, call-short, call-whole}
 
@@ -32,10 +32,6 @@ side-fits (a ∷ b ∷ s) (suc (suc side)) h r = absurd (omega arith)
 -- What the call answers, and what it leaves in the output.
 abbrev pub Does : Answer Parsed → (k side : ℕ) → List ℕ → Answer ℕ → List ℕ → Type 0
 Does x k side out answer after = (prefixesOf x k side out ≡ answer) × (prefixesWritten x k side out ≡ after)
-
-pub prefixes-refused : (x : Answer Parsed) (k side : ℕ) (out : List ℕ) (number line : ℕ) → x ≡ refusedBy number line → Does x k side out (refusedBy number line) out
-unfolding prefixesOf prefixesWritten
-prefixes-refused x k side out number line e = rw e (refl, refl)
 
 module _ (x : Answer Parsed) (t : Table) (e : x ≡ returned (tableRead t)) (k side : ℕ) (out : List ℕ) where
   pub prefixes-no-row : length (t .rows) ≤ k → Does x k side out (refusedBy 9 0) out

@@ -1,5 +1,4 @@
--- Calls on a text that is refused: each answers its refusal, and writes nothing. (Join and Prefixes: `Joins`, `Prefixes`.) And what they answer of a table,
--- or of a row that is not there.
+-- Calls on a text that is refused: each answers its refusal, and writes nothing. And what they answer of a table, or of a row that is not there.
 -- Assumes nothing.
 use Prim.Native.Nat.{ℕ, _≤_}
 use mathlib.Core.Path.{_≡_, refl}
@@ -11,6 +10,7 @@ use Rattle.policy.specs.Model.{Packet}
 use Rattle.reader.specs.States.{Parsed}
 use Rattle.frames.specs.Refusals.{noSuchRow}
 use Rattle.analyser.specs.Calls.{countsOf, checkOf, linePart, witnessOf, winnerOf, listOf, listWritten, strikeOf, strikeWritten}
+use Rattle.analyser.specs.Calls.{joinOf, joinWritten, prefixesOf, prefixesWritten}
 
 module _ (number at : ℕ) where
   pub check-refused-text : checkOf (refusedBy number at) ≡ refusedBy number at
@@ -37,6 +37,16 @@ module _ (number at : ℕ) where
       → (strikeOf text (refusedBy number at) out ≡ refusedBy number at) × (strikeWritten text (refusedBy number at) out ≡ out)
   unfolding strikeOf strikeWritten
   strike-refused-text text out = (refl, refl)
+
+  pub join-refused-text : (i j : ℕ) (out : List ℕ)
+      → (joinOf (refusedBy number at) i j out ≡ refusedBy number at) × (joinWritten (refusedBy number at) i j out ≡ out)
+  unfolding joinOf joinWritten
+  join-refused-text i j out = (refl, refl)
+
+  pub prefixes-refused-text : (k side : ℕ) (out : List ℕ)
+      → (prefixesOf (refusedBy number at) k side out ≡ refusedBy number at) × (prefixesWritten (refusedBy number at) k side out ≡ out)
+  unfolding prefixesOf prefixesWritten
+  prefixes-refused-text k side out = (refl, refl)
 
 module _ (r : Parsed) where
   pub check-accepted : checkOf (returned r) ≡ returned (countsOf (r .table))

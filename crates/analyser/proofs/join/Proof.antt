@@ -3,16 +3,17 @@ use borrow.Author.Needs.{needs}
 use borrow.Author.Tests.{not-true, not-false}
 use native.Mathlib.Omega.{arith}
 use mathlib.Core.Path.{_≡_, sym, ap, subst, _∙_}
-use mathlib.Core.Bool.{true}
+use mathlib.Core.Bool.{true, _&&_}
 use mathlib.Core.List.{List}
 use Prim.Native.Nat.{ℕ, _<_}
 use denote.Ref.{now}
+use lib.Dec.{ltb}
 use lib.ListN.{length}
 use Rattle.base.specs.Truths.{Decides}
 use Rattle.base.specs.Outputs.{Writes}
+use Rattle.base.proofs.Laws.Decides.{decides-and, decides-ltb}
 use Rattle.policy.specs.Model.{Table, Row, rowAt, parentOf}
 use Rattle.policy.specs.Views.{tableOf, rowOf, rowIn, parentIn}
-use Rattle.policy.specs.Wellformed.{widths}
 use Rattle.policy.specs.declared.row.Row.{Row as RowStruct}
 use Rattle.policy.specs.declared.table.Table.{Table as TableStruct}
 use Rattle.policy.proofs.Laws.Lists.{row-of-rows}
@@ -21,20 +22,17 @@ use Rattle.relations.specs.Entities.{TwoEntities}
 use Rattle.relations.proofs.Laws.Tables.{lent-parents}
 use Rattle.joining.specs.Joining.{Joinable, joinable, joined}
 use Rattle.joining.proofs.Laws.Joining.{joinable-decides}
+use Rattle.frames.specs.Parts.{boxWidths}
 use Rattle.frames.specs.Rows.{lineOfRow}
-use Rattle.reader.proofs.Laws.Readers.{table-sized}
 use Rattle.analyser.specs.Calls.{joinedLine, joinOf, joinWritten}
 use Rattle.analyser.specs.Views.{roomAnswer}
 use Rattle.reader.specs.States.{parse}
-use Rattle.analyser.proofs.Laws.Joins.{join-refused, join-no-row, join-differ, join-writes}
+use Rattle.analyser.proofs.Laws.Outputs.{turned}
+use Rattle.analyser.proofs.Laws.Refused.{join-refused-text}
+use Rattle.analyser.proofs.Laws.Joins.{join-no-row, join-differ, join-writes}
 use Rattle.calls.proofs.Laws.Texts.{Accepted, text-refused, accepted}
 use Rattle.analyser.proofs.join.Statement.{statement}
 use Rattle.analyser.proofs.join.Tie as tie
-
-refused : tie.Need-returns
-refused c =
-    let d = join-refused _ _ _ _ _ _ (text-refused (c .before .read .ensures) (c .if1 .taken)) in
-    (sym (d .0), sym (d .1))
 
 -- the text is accepted
 module _ (c : tie.Else1) where
@@ -45,27 +43,17 @@ module _ (c : tie.Else1) where
   t = c .before .read .result .table
 
   taken : Accepted (now (s .args .text)) (c .before .read .result)
-  taken = let r = c .before .read in accepted _ (table-sized (r .result) (r .ok)) (r .ensures) (c .if1 .left)
+  taken = let r = c .before .read in accepted _ _ (r .ok) (r .ensures) (c .if1 .left)
 
-no-first : tie.Need-returns-2
-no-first c =
-    let a = taken (c .before) in
-    let none : s (c .before) .args .i < length (tableOf (t (c .before)) .rows) → ⊥ = λ l. omega (arith, a .counted .rows, c .if2 .taken) in
-    let d = join-no-row _ _ (a .read) _ _ _ (λ q. none (q .0)) in
-    (sym (d .0), sym (d .1))
+  -- whether both rows are there
+  both : Decides (ltb (s .args .i) (t .rows) && ltb (s .args .j) (t .rows))
+      ((s .args .i < length (tableOf t .rows)) × (s .args .j < length (tableOf t .rows)))
+  both = rw (taken .counted .rows) (decides-and _ _ (decides-ltb _ _) (decides-ltb _ _))
 
-no-second : tie.Need-returns-3
-no-second c =
-    let k = c .before .before in
-    let a = taken k in
-    let none : s k .args .j < length (tableOf (t k) .rows) → ⊥ = λ l. omega (arith, a .counted .rows, c .if3 .taken) in
-    let d = join-no-row _ _ (a .read) _ _ _ (λ q. none (q .1)) in
-    (sym (d .0), sym (d .1))
-
--- both rows are there
-module _ (c : tie.Else3) where
+-- both are
+module _ (c : tie.Else2) where
   abbrev e : tie.Else1
-  e = c .before .before
+  e = c .before
 
   abbrev table : Table
   table = tableOf (t e)
@@ -76,11 +64,8 @@ module _ (c : tie.Else3) where
   abbrev j : ℕ
   j = s e .args .j
 
-  first-there : i < length (table .rows)
-  first-there = let n = taken e .counted .rows in let h = c .before .if2 .left in omega arith
-
-  second-there : j < length (table .rows)
-  second-there = let n = taken e .counted .rows in let h = c .if3 .left in omega arith
+  there : (i < length (table .rows)) × (j < length (table .rows))
+  there = both e .yes (not-false _ (c .if2 .left))
 
   -- A row of the table, and its ends.
   module _ (r : RowStruct) (x : ℕ) (h : x < length (table .rows)) (own : rowOf r ≡ rowIn (t e .heads) (t e .bounds) x) where
@@ -91,7 +76,7 @@ module _ (c : tie.Else3) where
     row-ends =
         let a = taken e in
         let rule = a .well .row x h in
-        let few = a .well .few-entities in
+        let few = a .well .counts .few-entities in
         record {
           parents = lent-parents (t e) (a .sized) (a .held) (a .well);
           source = omega (arith, ap (λ (q : Row). q .source) row-own, rule .source);
@@ -106,20 +91,20 @@ module _ (c : tie.After-row-at2) where
   abbrev one : tie.After-row-at
   one = c .before .before .before .before
 
-  abbrev k : tie.Else3
+  abbrev k : tie.Else2
   k = one .before .before .before .before
 
   first-row : rowOf (one .row-at .result) ≡ rowAt (table k) (i k)
-  first-row = row-own k (one .row-at .result) (i k) (first-there k) (one .row-at .ensures)
+  first-row = row-own k (one .row-at .result) (i k) (there k .0) (one .row-at .ensures)
 
   second-row : rowOf (c .row-at2 .result) ≡ rowAt (table k) (j k)
-  second-row = row-own k (c .row-at2 .result) (j k) (second-there k) (c .row-at2 .ensures)
+  second-row = row-own k (c .row-at2 .result) (j k) (there k .1) (c .row-at2 .ensures)
 
   ends : TwoEntities (t (e k) .parents) (one .row-at .result .source) (one .row-at .result .destination)
       × TwoEntities (t (e k) .parents) (c .row-at2 .result .source) (c .row-at2 .result .destination)
   ends = (
-    row-ends k (one .row-at .result) (i k) (first-there k) (one .row-at .ensures),
-    row-ends k (c .row-at2 .result) (j k) (second-there k) (c .row-at2 .ensures),
+    row-ends k (one .row-at .result) (i k) (there k .0) (one .row-at .ensures),
+    row-ends k (c .row-at2 .result) (j k) (there k .1) (c .row-at2 .ensures),
   )
 
 -- and tested
@@ -134,36 +119,35 @@ module _ (c : tie.After-joinable) where
   decides = subst (λ b. Decides b (Joinable (parentOf (table (k rows))) (rowAt (table (k rows)) (i (k rows))) (rowAt (table (k rows)) (j (k rows))))) (sym tested) (joinable-decides _ _ _)
 
 -- the rows can be joined where the test is passed
-can-join : (c : tie.Else4) → c .before .joinable .result ≡ true
-can-join c = not-false (c .before .joinable .result) (c .if4 .left)
+can-join : (c : tie.Else3) → c .before .joinable .result ≡ true
+can-join c = not-false (c .before .joinable .result) (c .if3 .left)
 
-differ : tie.Need-returns-4
+differ : tie.Need-returns-3
 differ c =
     let q = c .before in
     let f = k (rows q) in
-    let d = join-differ _ _ (taken (e f) .read) _ _ _ (first-there f) (second-there f) (decides q .no (not-true _ (c .if4 .taken))) in
-    (sym (d .0), sym (d .1))
+    turned (join-differ _ _ (taken (e f) .read) _ _ _ (there f .0) (there f .1) (decides q .no (not-true _ (c .if3 .taken))))
 
 -- the line is written
 module _ (c : tie.After-put-line) where
-  abbrev tried : tie.Else4
+  abbrev tried : tie.Else3
   tried = c .before .before .before .before .before
 
   abbrev known : tie.After-joinable
   known = tried .before
 
-  abbrev f : tie.Else3
+  abbrev f : tie.Else2
   f = k (rows known)
 
-  line : lineOfRow 5 widths (rowOf (c .before .before .joined .result)) ≡ joinedLine (i f) (j f) (table f)
+  line : lineOfRow 5 boxWidths (rowOf (c .before .before .joined .result)) ≡ joinedLine (i f) (j f) (table f)
   line =
-      ap (lineOfRow 5 widths)
+      ap (lineOfRow 5 boxWidths)
       (c .before .before .joined .ensures ∙ (λ x. joined (parents f x) (first-row (rows known) x) (second-row (rows known) x)))
 
   done : (roomAnswer (c .put-line .result) ≡ joinOf (parse (now (s (e f) .args .text))) (i f) (j f) (now (s (e f) .args .out)))
       × (c .put-line .last .1 .1 .1 .0 ≡ joinWritten (parse (now (s (e f) .args .text))) (i f) (j f) (now (s (e f) .args .out)))
   done =
-      join-writes _ _ (taken (e f) .read) _ _ _ (first-there f) (second-there f) (decides known .yes (can-join tried)) _ _
+      join-writes _ _ (taken (e f) .read) _ _ _ (there f .0) (there f .1) (decides known .yes (can-join tried)) _ _
       (subst (λ (l : List ℕ). Writes l (now (s (e f) .args .out)) (c .put-line .last .1 .1 .1 .0) (c .put-line .result)) line (c .put-line .ensures))
 
 pub join-spec : {M : Type 1} → statement M
@@ -171,11 +155,10 @@ join-spec =
     tie.close
     (tie.spec
     (λ c κs. search needs)
-    refused
-    no-first
-    no-second
-    (λ c κs. let f = c .before .before .before in omega (arith, first-there f, taken (e f) .well .few-rows))
-    (λ c κs. let f = c .before .before .before .before .before .before .before in omega (arith, second-there f, taken (e f) .well .few-rows))
+    (λ c. rw (text-refused (c .before .read .ensures) (c .if1 .taken)) (turned (join-refused-text _ _ _ _ _)))
+    (λ c. let a = c .before in turned (join-no-row _ _ (taken a .read) _ _ _ (both a .no (not-true _ (c .if2 .taken)))))
+    (λ c κs. let f = c .before .before .before in omega (arith, there f .0, taken (e f) .well .counts .few-rows))
+    (λ c κs. let f = c .before .before .before .before .before .before .before in omega (arith, there f .1, taken (e f) .well .counts .few-rows))
     (λ c κs. ends (c .before .before))
     differ
     (λ c κs. ends (rows (c .before .before .before)))

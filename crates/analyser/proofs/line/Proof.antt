@@ -1,27 +1,26 @@
 -- `line` meets its contract: the reader's counts give the place of the row's line. Assumes nothing.
 use borrow.Author.Needs.{needs}
-use borrow.Author.Tests.{lt-ltb, le-ltb}
+use borrow.Author.Tests.{lt-ltb}
 use native.Mathlib.Omega.{arith}
+use mathlib.Core.Path.{sym}
 use denote.Ref.{now}
-use Rattle.reader.proofs.Laws.Readers.{table-sized}
 use Rattle.analyser.specs.Calls.{linePart}
+use Rattle.analyser.proofs.Laws.Refused.{line-refused-text, line-missing}
 use Rattle.calls.proofs.Laws.Texts.{Accepted, text-refused, accepted}
 use Rattle.analyser.proofs.line.Statement.{statement}
 use Rattle.analyser.proofs.line.Tie as tie
 
 refused : tie.Need-returns
-unfolding linePart
-refused c = let i = c .before in rw (text-refused (i .before .before .read .ensures) (i .if1 .taken))
+refused c = let i = c .before in rw (text-refused (i .before .before .read .ensures) (i .if1 .taken)) (sym (line-refused-text _ _ _ _))
 
 taken : (c : tie.Else1) → Accepted (now (c .before .before .before .before .args .text)) (c .before .before .read .result)
-taken c = let r = c .before .before .read in accepted _ (table-sized (r .result) (r .ok)) (r .ensures) (c .if1 .left)
+taken c = let r = c .before .before .read in accepted _ _ (r .ok) (r .ensures) (c .if1 .left)
 
 no-row : tie.Need-returns-2
-unfolding linePart
 no-row c =
     let j = c .before in
     let a = taken (j .before .before) in
-    rw (a .read) (rw (a .counted .rows, le-ltb _ _ (j .if2 .taken)))
+    rw (a .read) (sym (line-missing _ _ (omega (arith, a .counted .rows, j .if2 .taken)) _))
 
 few : tie.Need-lines-before-requires
 few c κs = let h = taken (c .before .before) .held in (h .entities, h .capped, h .filters)

@@ -14,19 +14,15 @@ use Rattle.policy.specs.declared.table.Table.{Table as TableStruct}
 use Rattle.policy.proofs.Laws.Lists.{row-of-rows}
 use Rattle.prefixes.specs.Bytes.{Puts}
 use Rattle.prefixes.specs.Sides.{sideOf}
-use Rattle.reader.proofs.Laws.Readers.{table-sized}
 use Rattle.analyser.specs.Calls.{prefixesOf, prefixesWritten}
 use Rattle.analyser.specs.Views.{roomAnswer}
 use Rattle.reader.specs.States.{parse}
-use Rattle.analyser.proofs.Laws.Prefixes.{prefixes-refused, prefixes-no-row, prefixes-no-side, prefixes-writes, side-fits}
+use Rattle.analyser.proofs.Laws.Outputs.{turned}
+use Rattle.analyser.proofs.Laws.Refused.{prefixes-refused-text}
+use Rattle.analyser.proofs.Laws.Prefixes.{prefixes-no-row, prefixes-no-side, prefixes-writes, side-fits}
 use Rattle.calls.proofs.Laws.Texts.{Accepted, text-refused, accepted}
 use Rattle.analyser.proofs.prefixes.Statement.{statement}
 use Rattle.analyser.proofs.prefixes.Tie as tie
-
-refused : tie.Need-returns
-refused c =
-    let d = prefixes-refused _ _ _ _ _ _ (text-refused (c .before .read .ensures) (c .if1 .taken)) in
-    (sym (d .0), sym (d .1))
 
 -- the text is accepted
 module _ (c : tie.Else1) where
@@ -40,13 +36,7 @@ module _ (c : tie.Else1) where
   table = tableOf t
 
   taken : Accepted (now (s .args .text)) (c .before .read .result)
-  taken = let r = c .before .read in accepted _ (table-sized (r .result) (r .ok)) (r .ensures) (c .if1 .left)
-
-no-row : tie.Need-returns-2
-no-row c =
-    let e = c .before in
-    let d = prefixes-no-row _ _ (taken e .read) (s e .args .k) (s e .args .side) (now (s e .args .out)) (omega (arith, taken e .counted .rows, c .if2 .taken)) in
-    (sym (d .0), sym (d .1))
+  taken = let r = c .before .read in accepted _ _ (r .ok) (r .ensures) (c .if1 .left)
 
 -- the row is there
 module _ (c : tie.Else2) where
@@ -71,9 +61,9 @@ no-side : tie.Need-returns-3
 no-side c =
     let i = c .before in
     let above : not (i .is-side .result) ≡ true = c .if3 .taken in
-    let d = prefixes-no-side _ _ (taken (e (f i)) .read) (s (e (f i)) .args .k) (side i) (now (s (e (f i)) .args .out)) (there (f i))
-    (leb-false (side i) 1 (sym (tested i) ∙ not-true (i .is-side .result) above)) in
-    (sym (d .0), sym (d .1))
+    turned
+    (prefixes-no-side _ _ (taken (e (f i)) .read) (s (e (f i)) .args .k) (side i) (now (s (e (f i)) .args .out)) (there (f i))
+    (leb-false (side i) 1 (sym (tested i) ∙ not-true (i .is-side .result) above)))
 
 side-there : (c : tie.Else3) → side (c .before) ≤ 1
 side-there c = leb-true (side (c .before)) 1 (sym (tested (c .before)) ∙ not-false (c .before .is-side .result) (c .if3 .left))
@@ -114,21 +104,18 @@ module _ (c : tie.After-put) where
       prefixes-writes _ _ (taken (one q) .read) (k q) (side (i q)) (now (s (one q) .args .out)) (there (f (i q))) (side-there (h q)) _ _
       (subst (λ (r : Range). Puts 4 r (now (s (one q) .args .out)) (c .put .last .1 .1 .0) (c .put .result)) (range q) (c .put .ensures))
 
-returns : tie.Need-returns-4
-returns c = let d = done (c .before .before .before) in (c .count-written .ensures ∙ d .0, d .1)
-
 pub prefixes-spec : {M : Type 1} → statement M
 prefixes-spec =
     tie.close
     (tie.spec
     (λ c κs. search needs)
-    refused
-    no-row
+    (λ c. rw (text-refused (c .before .read .ensures) (c .if1 .taken)) (turned (prefixes-refused-text _ _ _ _ _)))
+    (λ c. let a = taken (c .before) in turned (prefixes-no-row _ _ (a .read) _ _ _ (omega (arith, a .counted .rows, c .if2 .taken))))
     (λ c κs. search needs)
     no-side
-    (λ c κs. let g = f (c .before .before .before) in omega (arith, there g, taken (e g) .well .few-rows))
+    (λ c κs. let g = f (c .before .before .before) in omega (arith, there g, taken (e g) .well .counts .few-rows))
     (λ c κs. side-there (c .before .before .before))
     (λ c κs. (high (c .before), omega arith))
     (λ c κs. search needs)
     (λ c. search needs)
-    returns)
+    (λ c. let d = done (c .before .before .before) in (c .count-written .ensures ∙ d .0, d .1)))

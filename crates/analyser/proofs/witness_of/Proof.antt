@@ -2,57 +2,37 @@
 -- Assumes nothing.
 use borrow.Author.Needs.{needs}
 use native.Mathlib.Omega.{arith}
-use mathlib.Core.Path.{_≡_, sym, ap, _∙_}
-use Prim.Native.Nat.{_<_}
+use mathlib.Core.Path.{sym, ap, _∙_}
 use denote.Ref.{now}
 use Rattle.base.specs.Answers.{returned}
-use Rattle.reader.proofs.Laws.Readers.{table-sized}
-use Rattle.covers.specs.Views.{resultOf}
 use Rattle.covers.proofs.Laws.Tables.{lent-asked}
-use Rattle.verdicts.specs.Verdicts.{verdictOn, verdictIn}
 use Rattle.verdicts.proofs.Laws.Tables.{lent-verdict}
-use Rattle.analyser.specs.Calls.{witnessOf}
 use Rattle.analyser.proofs.Laws.Calls.{witness-verdict}
-use Rattle.calls.proofs.Laws.Texts.{Accepted, accepted, row-refused, row-missing}
+use Rattle.analyser.proofs.Laws.Refused.{witness-refused-text, witness-missing}
+use Rattle.calls.proofs.Laws.Texts.{Accepted, text-refused, accepted}
 use Rattle.analyser.proofs.witness_of.Statement.{statement}
 use Rattle.analyser.proofs.witness_of.Tie as tie
 
-refused : tie.Need-returns
-unfolding witnessOf
-refused c = sym (row-refused verdictOn _ (c .before .read .ensures) (c .if1 .taken))
-
 -- the text is accepted
 taken : (c : tie.Else1) → Accepted (now (c .before .before .before .args .text)) (c .before .read .result)
-taken c = let r = c .before .read in accepted _ (table-sized (r .result) (r .ok)) (r .ensures) (c .if1 .left)
-
-no-row : tie.Need-returns-2
-unfolding witnessOf
-no-row c = sym (row-missing verdictOn _ (taken (c .before)) (omega (arith, c .if2 .taken)))
-
--- and has the row
-there : (c : tie.Else2) → c .before .before .before .before .args .k < c .before .before .read .result .table .rows
-there c = omega (arith, c .if2 .left)
+taken c = let r = c .before .read in accepted _ _ (r .ok) (r .ensures) (c .if1 .left)
 
 told : tie.Need-returns-3
 told c =
     let j = c .before in
     let i = j .before .before .before .before .before in
     let a = taken (i .before) in
-    let t = i .before .before .read .result .table in
-    let n = a .counted .rows in
-    let h = there i in
-    let own : resultOf (j .judge .result) ≡ verdictIn (t .parents) (t .heads) (t .bounds) (i .before .before .before .before .args .k) = j .judge .ensures in
-    c .tell .ensures ∙ ap returned (own ∙ lent-verdict _ (a .sized) (a .held) _ h) ∙ sym (witness-verdict _ _ (a .read) _ (omega arith))
+    c .tell .ensures
+    ∙ ap returned (j .judge .ensures ∙ lent-verdict (i .before .before .read .result .table) (a .sized) (a .held) _ (i .if2 .left))
+    ∙ sym (witness-verdict _ _ (a .read) _ (omega (arith, a .counted .rows, i .if2 .left)))
 
 pub witness-of-spec : {M : Type 1} → statement M
 witness-of-spec =
     tie.close
     (tie.spec
     (λ c κs. search needs)
-    refused
-    no-row
-    (λ c κs. let e = c .before .before .before .before in
-    let a = taken (e .before) in
-    lent-asked _ (a .sized) (a .held) (a .well) _ (there e))
+    (λ c. rw (text-refused (c .before .read .ensures) (c .if1 .taken)) (sym (witness-refused-text _ _ _)))
+    (λ c. let a = taken (c .before) in rw (a .read) (sym (witness-missing _ _ (omega (arith, a .counted .rows, c .if2 .taken)))))
+    (λ c κs. let e = c .before .before .before .before in let a = taken (e .before) in lent-asked _ (a .sized) (a .held) (a .well) _ (e .if2 .left))
     (λ c κs. search needs)
     told)

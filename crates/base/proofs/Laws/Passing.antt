@@ -56,7 +56,7 @@ map-append f [] ys = refl
 map-append f (x ∷ xs) ys = ap (λ l. f x ∷ l) (map-append f xs ys)
 
 -- What a number of the array stands for is `tell`'s; of `whole`, what is `left` comes of the things not looked at yet. k things were looked at,
--- and of n of them the numbers are kept, each below the bound, in an array that has room for so many.
+-- and of n of them the numbers are kept, each below the bound, in an array that has room for them.
 module _ {A : Type 0} (tell : ℕ → A) (room bound : ℕ) (whole : List A) where
   pub record Keeping (left : List A) (l : List ℕ) (n k : ℕ) : Type 0 where
     pub long : length l ≡ room

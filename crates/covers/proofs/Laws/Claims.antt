@@ -13,7 +13,7 @@ use Rattle.base.proofs.Laws.Members.{member-at, at-member}
 use Rattle.base.proofs.Laws.Passing.{passing-of, passing-in}
 use Rattle.policy.specs.Model.{Selector, Packet, Row, Table, noRow, rowAt, parentOf}
 use Rattle.policy.specs.Wellformed.{Wellformed}
-use Rattle.policy.proofs.Laws.Tables.{five-ranges}
+use Rattle.policy.proofs.Laws.Words.{five-ranges}
 use Rattle.relations.specs.Entities.{atOrAbove}
 use Rattle.relations.specs.Groups.{sameGroup, Hides}
 use Rattle.relations.proofs.Laws.Entities.{atOrAbove-decides}

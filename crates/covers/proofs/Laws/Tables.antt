@@ -49,7 +49,7 @@ lent-asked t s held w i h =
       row = omega (arith, held .rows);
       ends = record {
         parents = lent-parents t s held w;
-        source = omega (arith, r .source, w .few-entities);
-        destination = omega (arith, r .destination, w .few-entities);
+        source = omega (arith, r .source, w .counts .few-entities);
+        destination = omega (arith, r .destination, w .counts .few-entities);
       };
     }

@@ -19,7 +19,8 @@ use Rattle.frames.specs.Progress.{Progress}
 use Rattle.frames.specs.Caps.{Cap, capLength, capTechnology, capFrom, capKind}
 use Rattle.frames.proofs.Laws.Parts.{coefficients-rule, three-bytes}
 use Rattle.base.proofs.Laws.Each.{each-more}
-use Rattle.frames.proofs.Laws.Growing.{Sequenced, Growing, no-floor, nothing-faulty, Lawful}
+use Rattle.frames.proofs.Laws.Claims.{judges-none}
+use Rattle.frames.proofs.Laws.Growing.{Sequenced, before-floor, Growing, growing-start, early, no-floor, Lawful}
 
 module _ (p : Progress) (c : Cap) (m : capKind .placed p c ≡ true) where
   some-entity : 0 < length (p .table .entities)
@@ -42,28 +43,20 @@ module _ (p : Progress) (c : Cap) (m : capKind .placed p c ≡ true) where
   sequenced-cap q =
       let few = few-caps in
       let start = early-cap q in
-      record {
-        few-entities = q .few-entities;
+      let e = early q start in
+      before-floor start
+      (record {
+        few-entities = e .few-entities;
         few-caps = simp length-append (omega arith);
         entities-first = λ h. some-entity;
-        one-floor = q .one-floor;
-        caps-first = λ h. absurd (omega arith);
-        floor-first = q .floor-first;
-        few-filters = q .few-filters;
-        few-rows = q .few-rows;
-      }
+        none-later = e .none-later;
+      })
 
   growing-cap : CoefficientsRule (c .coefficients) → Growing p → Growing (capKind .grown c p)
   growing-cap r g =
-      let empty = g .sequenced .floor-first (early-cap (g .sequenced)) in
-      record {
-        sequenced = sequenced-cap (g .sequenced);
-        entity = λ k h. entity-changed (g .entity k h);
-        cap = each-more CoefficientsRule (p .table .caps) (c .coefficients) [] (g .cap) r;
-        floor = g .floor;
-        filter = λ k h. absurd (omega arith);
-        row = λ k h. absurd (omega arith);
-      }
+      let q = g .sequenced in
+      growing-start (sequenced-cap q) (early q (early-cap q) .none-later) (λ k h. entity-changed (g .entity k h))
+      (each-more CoefficientsRule (p .table .caps) (c .coefficients) [] (g .cap) r) (g .floor)
 
 -- ---- what its bytes say
 
@@ -83,10 +76,8 @@ cap-lawful =
       said = λ bs h. (refl, cap-said bs h);
       read = cap-read;
       in-range = λ l h. coefficients-rule 1 l;
-      numbered = λ t c. tt;
-      rising = λ t c. tt;
-      faults = λ t c few. tt;
-      breaks = λ t c few n h. absurd (nothing-faulty t n h);
+      numbered = λ t c. (tt, tt);
+      judges = λ t c few. judges-none;
       one-line = λ p c m. simp length-append (omega arith);
       sequenced = sequenced-cap;
       growing = λ p c r g m k. growing-cap p c m r g;

@@ -7,7 +7,7 @@ use Prim.Native.Nat.{ℕ, _%_, _^_, _<_, _≤_}
 use mathlib.Core.Path.{_≡_, refl, sym, _∙_}
 use mathlib.Core.Logic.{_⊎_, inl, inr}
 use mathlib.Core.Bool.{Bool, true, false}
-use mathlib.Core.List.{List, [], _∷_, _++_, map, List·Memᴰ·head, List·Memᴰ·not-nil, List·Memᴰ·eq-of-singleton}
+use mathlib.Core.List.{List, [], _∷_, _++_, map}
 use native.Mathlib.Omega.{arith}
 use borrow.Author.Tests.{ltb-true, eqb-true, eqb-false}
 use lib.Dec.{eqb}
@@ -15,7 +15,7 @@ use lib.ListN.{length, getD, length-map, length-append, List·getD-append}
 use lib.Seq.{getD-append-seam}
 use Rattle.base.specs.Checks.{refusal}
 use Rattle.base.specs.Truths.{pick, Decides}
-use Rattle.base.proofs.Laws.Checks.{both, refusal-none, none-broken, one-kept, Breaks}
+use Rattle.base.proofs.Laws.Checks.{both, refusal-none, none-broken, one-kept}
 use Rattle.base.proofs.Laws.Decides.{decides-as, decides-ltb, decides-eqb, decides-and, decides-holds, decides-fails}
 use Rattle.base.proofs.Laws.Members.{among-decides}
 use Rattle.policy.specs.Limits.{mostEntities}
@@ -23,13 +23,14 @@ use Rattle.policy.specs.Model.{Entity, Table, noParent, noEntity, entityAt, lay
 use Rattle.policy.specs.Views.{withEntity}
 use Rattle.policy.specs.Wellformed.{RootRule, OtherRule, EntityRule, IsEntity}
 use Rattle.frames.specs.Refusals.{badEntity}
-use Rattle.frames.specs.Faults.{ContentFault, entity-rule, no-root, no-entity, no-technology, low-above-high, null-above-0}
+use Rattle.frames.specs.Faults.{anEntity, Broken, entity-rule}
 use Rattle.frames.specs.Progress.{Progress}
 use Rattle.frames.specs.Entities.{otherLayers, rootRule, otherRule, entityRule, entityContent, entityKind}
 use Rattle.frames.proofs.Laws.Parts.{three-bytes}
 use Rattle.frames.proofs.Laws.Numbers.{own}
+use Rattle.frames.proofs.Laws.Claims.{tests-one, judges-one}
 use Rattle.base.proofs.Laws.Firsts.{below-more}
-use Rattle.frames.proofs.Laws.Growing.{Sequenced, Growing, no-floor, Lawful}
+use Rattle.frames.proofs.Laws.Growing.{Sequenced, before-floor, Growing, growing-start, early, no-floor, Lawful}
 
 -- ---- the rules of its content
 
@@ -90,10 +91,12 @@ module _ (t : Table) (e : Entity) where
   before : (k : ℕ) → k < length (t .entities) → entityAt (withEntity e t) k ≡ entityAt t k
   before k h = List·getD-append (t .entities) (e ∷ []) noEntity k h
 
-  entity-kept : length (t .entities) ≤ noParent → refusal (entityContent (layersOf t) e) ≡ 0 → EntityRule (withEntity e t) (length (t .entities))
-  entity-kept few h =
-      entity-decides (withEntity e t) (t .entities) [] e refl few .yes
-      (refusal-none (entityRule (layersOf t) e) badEntity [] (λ z. omega arith) h .0)
+  module _ (few : length (t .entities) ≤ noParent) where
+    rule-decides : Decides (entityRule (layersOf t) e) (EntityRule (withEntity e t) (length (t .entities)))
+    rule-decides = entity-decides (withEntity e t) (t .entities) [] e refl few
+
+    entity-kept : refusal (entityContent (layersOf t) e) ≡ 0 → EntityRule (withEntity e t) (length (t .entities))
+    entity-kept h = rule-decides .yes (refusal-none (entityRule (layersOf t) e) badEntity [] (λ z. omega arith) h .0)
 
   -- Those before it keep their rules.
   entity-before : (k : ℕ) → k < length (t .entities) → EntityRule t k → EntityRule (withEntity e t) k
@@ -129,42 +132,26 @@ module _ (p : Progress) (e : Entity) (m : entityKind .placed p e ≡ true) where
   sequenced-entity q =
       let none = no-caps in
       let few = few-entities in
-      record {
+      let start = early-entity q in
+      before-floor start
+      (record {
         few-entities = simp length-append (omega arith);
-        few-caps = q .few-caps;
+        few-caps = omega arith;
         entities-first = λ h. absurd (omega arith);
-        one-floor = q .one-floor;
-        caps-first = q .caps-first;
-        floor-first = q .floor-first;
-        few-filters = q .few-filters;
-        few-rows = q .few-rows;
-      }
+        none-later = early q start .none-later;
+      })
 
   growing-entity : Growing p → refusal (entityContent (layersOf (p .table)) e) ≡ 0 → Growing (entityKind .grown e p)
   growing-entity g c =
       let t = p .table in
+      let q = g .sequenced in
       let few = few-entities in
-      let empty = g .sequenced .floor-first (early-entity (g .sequenced)) in
-      record {
-        sequenced = sequenced-entity (g .sequenced);
-        entity = each-entity t e (g .entity) (entity-kept t e (omega arith) c);
-        cap = g .cap;
-        floor = g .floor;
-        filter = λ k h. absurd (omega arith);
-        row = λ k h. absurd (omega arith);
-      }
+      growing-start (sequenced-entity q) (early q (early-entity q) .none-later) (each-entity t e (g .entity) (entity-kept t e (omega arith) c)) (g .cap)
+      (g .floor)
 
-entity-breaks : (t : Table) (e : Entity) → length (t .entities) ≤ mostEntities → (n : ℕ) → ContentFault t (entityKind .judged e) n
-    → Breaks n (entityContent (layersOf t) e)
-entity-breaks t e few n (entity-rule x m h) =
-    let same : x ≡ e = List·Memᴰ·eq-of-singleton m in
-    let h′ : EntityRule (withEntity e t) (length (t .entities)) → ⊥ = rw same at h in
-    inl (decides-fails (entityRule (layersOf t) e) (entity-decides (withEntity e t) (t .entities) [] e refl (omega arith)) h′, omega arith)
-entity-breaks t e few n (no-root x m h) = absurd (List·Memᴰ·not-nil m)
-entity-breaks t e few n (no-entity x m h) = absurd (List·Memᴰ·not-nil m)
-entity-breaks t e few n (no-technology u m h) = absurd (List·Memᴰ·not-nil m)
-entity-breaks t e few n (low-above-high r m h) = absurd (List·Memᴰ·not-nil m)
-entity-breaks t e few n (null-above-0 c m k h) = absurd (List·Memᴰ·not-nil m)
+entity-only : (t : Table) → length (t .entities) ≤ noParent → (e : Entity) (m : ℕ) → Broken t (anEntity e) m
+    → (entityRule (layersOf t) e ≡ false) × (m ≡ badEntity)
+entity-only t few e m (entity-rule x h) = (decides-fails _ (rule-decides t e few) h, refl)
 
 pub entity-lawful : Lawful (λ e. Unit {0}) entityKind
 entity-lawful =
@@ -173,9 +160,7 @@ entity-lawful =
       read = λ bs e h. (rw h, rw h);
       in-range = λ l h. tt;
       numbered = λ t e. omega arith;
-      rising = λ t e. omega arith;
-      faults = λ t e few. ((λ b. entity-rule e (List·Memᴰ·head refl) (entity-decides (withEntity e t) (t .entities) [] e refl (omega arith) .no b)), tt);
-      breaks = entity-breaks;
+      judges = λ t e few. judges-one (tests-one (λ b. entity-rule e (rule-decides t e (omega arith) .no b)) (entity-only t (omega arith) e));
       one-line = λ p e m. simp length-append (omega arith);
       sequenced = sequenced-entity;
       growing = λ p e i g m c. growing-entity p e m g c;

@@ -6,9 +6,9 @@
 -- Assumes nothing.
 use Prim.Native.Nat.{ℕ, suc, _+_, _<_, _≤_}
 use mathlib.Core.Path.{_≡_, refl, sym, ap, subst, _∙_}
-use mathlib.Core.Bool.{true, false, false≢true}
+use mathlib.Core.Bool.{true, false≢true}
 use mathlib.Core.Logic.{_⊎_, inl, inr}
-use mathlib.Core.List.{List, [], _∷_, _++_, List·Memᴰ·head, List·Memᴰ·not-nil, List·Memᴰ·eq-of-singleton}
+use mathlib.Core.List.{List, [], _∷_, _++_}
 use native.Mathlib.Nat.{add-zero}
 use native.Mathlib.Decide.{decLt}
 use native.Mathlib.Omega.{arith}
@@ -18,32 +18,32 @@ use lib.ListN.{length, getD, take, drop, length-drop, length-append, take-append
 use lib.Seq.{getD-drop, getD-append-add}
 use Rattle.base.specs.Truths.{Decides}
 use Rattle.base.specs.Checks.{or-else, refusal}
-use Rattle.base.proofs.Laws.Checks.{both, refusal-none, none-broken, one-kept, Breaks}
-use Rattle.base.proofs.Laws.Decides.{decides-holds, decides-fails, not-holds, decides-and, decides-or, decides-eqb, decides-leb}
-use Rattle.policy.specs.Limits.{mostEntities, mostFilters}
+use Rattle.base.proofs.Laws.Checks.{both, refusal-none, none-broken, one-kept}
+use Rattle.base.proofs.Laws.Decides.{decides-holds, decides-and, decides-or, decides-eqb, decides-leb}
+use Rattle.policy.specs.Limits.{mostFilters}
 use Rattle.hex.specs.Lines.{bytesOf}
 use Rattle.policy.specs.Model.{Selector, Filter, Table, passing, noFilter, parentsOf}
-use Rattle.policy.specs.Wellformed.{Ordered, Fits, widths, FilterRule}
+use Rattle.policy.specs.Wellformed.{Ordered, Fits, FilterRule}
 use Rattle.relations.specs.Selectors.{inhabited}
-use Rattle.relations.proofs.Laws.Selectors.{ordered-inhabited, inhabited-decides, inhabited-ordered, emptyRange-decides}
+use Rattle.relations.proofs.Laws.Selectors.{ordered-inhabited, inhabited-decides, inhabited-ordered}
 use Rattle.frames.specs.Refusals.{badNumber, emptyRange}
-use Rattle.frames.specs.Faults.{Judged, ContentFault, entity-rule, no-root, no-entity, no-technology, low-above-high, null-above-0}
 use Rattle.frames.specs.Progress.{Progress}
 use Rattle.frames.specs.Numbers.{isRoot}
 use Rattle.frames.specs.Filters.{actionPlace, filterLength, filterFrom, SaysAction, SaysFilter, filterContent, filterKind}
-use Rattle.frames.specs.Parts.{selectorFrom, boxBytes}
+use Rattle.frames.specs.Parts.{selectorFrom, boxBytes, boxWidths}
 use Rattle.frames.proofs.Laws.Parts.{selector-fits, box-said, box-length, box-read}
 use Rattle.frames.proofs.Laws.Numbers.{isRoot-decides}
-use Rattle.base.proofs.Laws.Each.{_▹_, each-more}
+use Rattle.base.proofs.Laws.Each.{each-more}
 use Rattle.policy.proofs.Laws.Changed.{entity-changed, filter-changed}
-use Rattle.frames.proofs.Laws.Growing.{Sequenced, Growing, Lawful}
+use Rattle.frames.proofs.Laws.Claims.{tests-root, tests-ranges, judges-one, judges-more}
+use Rattle.frames.proofs.Laws.Growing.{Sequenced, after-floor, Growing, whole, Lawful}
 
 -- What the numbers of a filter keep because they are bytes of a line with a filter's length.
 pub record FilterInRange (f : Filter) : Type 0 where
-  pub selector : Fits widths (f .selector)
+  pub selector : Fits boxWidths (f .selector)
   pub action : f .action ≤ passing
 
-filter-kept : (t : Table) (f : Filter) → FilterInRange f → refusal (filterContent (parentsOf t) f) ≡ 0 → FilterRule t f
+pub filter-kept : (t : Table) (f : Filter) → FilterInRange f → refusal (filterContent (parentsOf t) f) ≡ 0 → FilterRule t f
 filter-kept t f range h =
     let some = inhabited (f .selector) in
     let root = refusal-none (isRoot (parentsOf t) (f .root)) badNumber (or-else some emptyRange ∷ []) (λ z. omega arith) h in
@@ -66,18 +66,16 @@ module _ (p : Progress) (f : Filter) (m : filterKind .placed p f ≡ true) where
 
   sequenced-filter : Sequenced p → Sequenced (filterKind .grown f p)
   sequenced-filter q =
-      let done = floored in
       let few = few-filters in
-      record {
-        few-entities = q .few-entities;
-        few-caps = q .few-caps;
-        entities-first = q .entities-first;
-        one-floor = q .one-floor;
-        caps-first = q .caps-first;
-        floor-first = λ h. absurd (omega arith);
+      let c = whole q floored in
+      after-floor floored
+      (record {
+        some-entity = c .some-entity;
+        few-entities = c .few-entities;
+        six-caps = c .six-caps;
         few-filters = simp length-append (omega arith);
-        few-rows = q .few-rows;
-      }
+        few-rows = c .few-rows;
+      })
 
   growing-filter : FilterInRange f → Growing p → refusal (filterContent (parentsOf (p .table)) f) ≡ 0
       → Growing (filterKind .grown f p)
@@ -94,21 +92,6 @@ module _ (p : Progress) (f : Filter) (m : filterKind .placed p f ≡ true) where
             (filter-changed (filter-kept t f range c));
         row = λ k h. absurd (omega arith);
       }
-
--- A box in which no packet is has a low above its high.
-pub ranges-fault : (t : Table) (f : Judged) (s : Selector) → f .ranges ≡ s → inhabited s ≡ false → ContentFault t f emptyRange
-ranges-fault t f s e b = let h = emptyRange-decides s .yes (rw b) in low-above-high (h .0) (rw e (h .1)) (h .2)
-
-filter-breaks : (t : Table) (f : Filter) → length (t .entities) ≤ mostEntities → (n : ℕ) → ContentFault t (filterKind .judged f) n
-    → Breaks n (filterContent (parentsOf t) f)
-filter-breaks t f few n (entity-rule x m h) = absurd (List·Memᴰ·not-nil m)
-filter-breaks t f few n (no-root e m h) =
-    let same : e ≡ f .root = List·Memᴰ·eq-of-singleton m in
-    inl (decides-fails _ (isRoot-decides t (f .root)) (rw same at h), omega arith)
-filter-breaks t f few n (no-entity x m h) = absurd (List·Memᴰ·not-nil m)
-filter-breaks t f few n (no-technology u m h) = absurd (List·Memᴰ·not-nil m)
-filter-breaks t f few n (low-above-high r m h) = inr (inl (not-holds (inhabited (f .selector)) (emptyRange-decides (f .selector)) (r, m, h), omega arith))
-filter-breaks t f few n (null-above-0 c m k h) = absurd (List·Memᴰ·not-nil m)
 
 -- ---- what its bytes say
 
@@ -134,13 +117,13 @@ last-read (b ∷ c ∷ l) action h = absurd h
 filter-said : (bs : List ℕ) → filterLength bs ≡ true → SaysFilter bs (filterFrom bs)
 filter-said [] h = absurd (false≢true h)
 filter-said (b ∷ bs) h =
-    let n = boxBytes widths in
+    let n = boxBytes boxWidths in
     let l = filterLength-decides (b ∷ bs) .yes h in
     let few : length (drop n bs) ≤ 1 = simp length-drop (elim (l .0) [ inl e ↦ omega arith | inr e ↦ omega arith ]) in
     let at : getD (drop n bs) 0 0 ≡ getD bs n 0 = getD-drop n bs 0 0 in
     record {
       box = take n bs;
-      selector = box-said 1 widths (b ∷ bs) (filter-has-box (b ∷ bs) h);
+      selector = box-said 1 boxWidths (b ∷ bs) (filter-has-box (b ∷ bs) h);
       last = drop n bs;
       action = subst (SaysAction (drop n bs)) at (last-said (drop n bs) few (rw at (l .1)));
       bytes = ap (λ (r : List ℕ). b ∷ r) (sym (take-append-drop n bs));
@@ -148,10 +131,10 @@ filter-said (b ∷ bs) h =
 
 filter-read : (bs : List ℕ) (f : Filter) → SaysFilter bs f → (filterLength bs ≡ true) × (filterFrom bs ≡ f)
 filter-read bs f s =
-    let long = box-length widths (s .box) (f .selector) (s .selector) in
+    let long = box-length boxWidths (s .box) (f .selector) (s .selector) in
     let last = last-read (s .last) (f .action) (s .action) in
-    let selector : selectorFrom 1 widths bs ≡ f .selector =
-    ap (selectorFrom 1 widths) (s .bytes) ∙ box-read widths (s .box) (f .selector) (f .root ∷ []) (s .last) 1 refl (s .selector) in
+    let selector : selectorFrom 1 boxWidths bs ≡ f .selector =
+    ap (selectorFrom 1 boxWidths) (s .bytes) ∙ box-read boxWidths (s .box) (f .selector) (f .root ∷ []) (s .last) 1 refl (s .selector) in
     let action : getD bs actionPlace 0 ≡ f .action =
     ap (λ (l : List ℕ). getD l actionPlace 0) (s .bytes)
     ∙ ap (λ (n : ℕ). getD (f .root ∷ (s .box ++ s .last)) (suc n) 0) (sym long ∙ sym (add-zero (length (s .box))))
@@ -164,7 +147,7 @@ filter-read bs f s =
     -- it ends with the box or with one byte more
     ends : (length bs ≡ actionPlace) ⊎ (length bs ≡ actionPlace + 1)
     ends =
-        let long = box-length widths (s .box) (f .selector) (s .selector) in
+        let long = box-length boxWidths (s .box) (f .selector) (s .selector) in
         let few = last-read (s .last) (f .action) (s .action) .0 in
         let size : length bs ≡ actionPlace + length (s .last) = ap length (s .bytes) ∙ simp length-append (omega arith) in
         elim (decLt (length (s .last)) 1) [ yes h ↦ inl (omega arith) | no h ↦ inr (omega arith) ]
@@ -174,14 +157,9 @@ filter-lawful =
     record {
       said = filter-said;
       read = filter-read;
-      in-range = λ l h. record { selector = selector-fits 1 widths l; action = filterLength-decides (bytesOf l) .yes h .1 };
+      in-range = λ l h. record { selector = selector-fits 1 boxWidths l; action = filterLength-decides (bytesOf l) .yes h .1 };
       numbered = λ t f. omega arith;
-      rising = λ t f. omega arith;
-      faults = λ t f few.
-          (λ b. no-root (f .root) (List·Memᴰ·head refl) (isRoot-decides t (f .root) .no b))
-          ▹ (λ b. ranges-fault t (filterKind .judged f) (f .selector) refl b)
-          ▹ tt;
-      breaks = filter-breaks;
+      judges = λ t f few. judges-more (tests-root t (f .root)) (judges-one (tests-ranges t (f .selector)));
       one-line = λ p f m. simp length-append (omega arith);
       sequenced = sequenced-filter;
       growing = λ p f i g m c. growing-filter p f m i g c;

@@ -16,7 +16,8 @@ use Rattle.policy.proofs.Laws.Changed.{entity-changed}
 use Rattle.frames.specs.Progress.{Progress}
 use Rattle.frames.specs.Floors.{floorKind}
 use Rattle.frames.proofs.Laws.Parts.{coefficients-rule, three-bytes}
-use Rattle.frames.proofs.Laws.Growing.{Sequenced, Growing, nothing-faulty, Lawful}
+use Rattle.frames.proofs.Laws.Claims.{judges-none}
+use Rattle.frames.proofs.Laws.Growing.{Sequenced, after-floor, Growing, growing-start, early, Lawful}
 
 module _ (p : Progress) (c : Coefficients) (m : floorKind .placed p c ≡ true) where
   six-caps : length (p .table .caps) ≡ technologies
@@ -27,28 +28,20 @@ module _ (p : Progress) (c : Coefficients) (m : floorKind .placed p c ≡ true) 
 
   sequenced-floor : Sequenced p → Sequenced (floorKind .grown c p)
   sequenced-floor q =
-      record {
-        few-entities = q .few-entities;
-        few-caps = q .few-caps;
-        entities-first = q .entities-first;
-        one-floor = omega arith;
-        caps-first = λ h. six-caps;
-        floor-first = λ h. absurd (omega arith);
-        few-filters = q .few-filters;
-        few-rows = q .few-rows;
-      }
+      let e = early q early-floor in
+      after-floor refl
+      (record {
+        some-entity = e .entities-first (omega (arith, six-caps));
+        few-entities = e .few-entities;
+        six-caps = six-caps;
+        few-filters = omega (arith, e .none-later);
+        few-rows = omega (arith, e .none-later);
+      })
 
   growing-floor : CoefficientsRule c → Growing p → Growing (floorKind .grown c p)
   growing-floor r g =
-      let empty = g .sequenced .floor-first early-floor in
-      record {
-        sequenced = sequenced-floor (g .sequenced);
-        entity = λ k h. entity-changed (g .entity k h);
-        cap = g .cap;
-        floor = λ h. r;
-        filter = λ k h. absurd (omega arith);
-        row = λ k h. absurd (omega arith);
-      }
+      let q = g .sequenced in
+      growing-start (sequenced-floor q) (early q early-floor .none-later) (λ k h. entity-changed (g .entity k h)) (g .cap) (λ h. r)
 
 pub floor-lawful : Lawful CoefficientsRule floorKind
 floor-lawful =
@@ -58,10 +51,8 @@ floor-lawful =
           let long : length bs ≡ 3 = ap length (h .1) ∙ h .0 in
           (eq-eqb (length bs) 3 long, three-bytes bs long ∙ h .1);
       in-range = λ l h. coefficients-rule 0 l;
-      numbered = λ t c. tt;
-      rising = λ t c. tt;
-      faults = λ t c few. tt;
-      breaks = λ t c few n h. absurd (nothing-faulty t n h);
+      numbered = λ t c. (tt, tt);
+      judges = λ t c few. judges-none;
       one-line = λ p c m. let e = early-floor p c m in omega arith;
       sequenced = sequenced-floor;
       growing = λ p c r g m k. growing-floor p c m r g;

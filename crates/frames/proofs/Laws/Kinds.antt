@@ -1,7 +1,8 @@
 -- Laws of all kinds of frames:
 --   InRange, lawful: each kind owes what Lawful says, of values whose numbers are in range
 -- Assumes nothing.
-use Rattle.policy.specs.Wellformed.{CoefficientsRule, widths}
+use Rattle.policy.specs.Wellformed.{CoefficientsRule}
+use Rattle.frames.specs.Parts.{boxWidths}
 use Rattle.frames.specs.Kinds.{FrameName, ofEntity, ofCap, ofFloor, ofFilter, ofRow, Value, describe}
 use Rattle.frames.proofs.Laws.Growing.{Lawful}
 use Rattle.frames.proofs.Laws.Entities.{entity-lawful}
@@ -16,7 +17,7 @@ InRange ofEntity = λ e. Unit {0}
 InRange ofCap = λ c. CoefficientsRule (c .coefficients)
 InRange ofFloor = CoefficientsRule
 InRange ofFilter = FilterInRange
-InRange ofRow = RowInRange widths
+InRange ofRow = RowInRange boxWidths
 
 pub lawful : (k : FrameName) → Lawful (InRange k) (describe k)
 lawful ofEntity = entity-lawful

@@ -1,5 +1,5 @@
 -- Laws of what the bytes of a frame say:
---   bytes-there: a part of so many bytes has their characters
+--   bytes-there: a part of n bytes has their characters
 --   coefficients-rule, selector-fits: the coefficients and the box of a line are in range
 --   box-said, box-length, box-read: what a part of the bytes says as a box, its length, and that what says a box is read so
 --   three-first, three-bytes: three bytes, read one by one

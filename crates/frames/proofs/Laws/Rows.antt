@@ -6,9 +6,8 @@
 -- Assumes nothing.
 use Prim.Native.Nat.{ℕ, zero, suc, _+_, _<_, _≤_}
 use mathlib.Core.Path.{_≡_, refl, sym, ap, _∙_}
-use mathlib.Core.Bool.{true, not, _&&_}
-use mathlib.Core.Logic.{_⊎_, inl, inr}
-use mathlib.Core.List.{List, [], _∷_, _++_, append-assoc, List·Memᴰ, List·Memᴰ·head, List·Memᴰ·tail, List·Memᴰ·not-nil, List·Memᴰ·cases-cons, List·Memᴰ·eq-of-singleton}
+use mathlib.Core.Bool.{true, false, not}
+use mathlib.Core.List.{List, [], _∷_, _++_, append-assoc, map, List·Memᴰ}
 use native.Mathlib.Omega.{arith}
 use borrow.Author.Tests.{leb-true, ltb-true, eqb-true, ne-eqb, eq-eqb, lt-ltb, le-leb}
 use lib.Dec.{eqb, leb, ltb}
@@ -16,27 +15,30 @@ use native.Mathlib.Numerals.{add-one}
 use lib.ListN.{length, getD, take, drop, length-take, length-drop, length-append, take-append-drop}
 use lib.Seq.{take-all, take-length, drop-cons, drop-drop, drop-append-add, getD-append-seam}
 use Rattle.base.specs.Checks.{or-else, refusal}
-use Rattle.base.proofs.Laws.Checks.{both, refusal-none, none-broken, one-kept, Breaks}
+use Rattle.base.proofs.Laws.Checks.{both, refusal-none, none-broken, one-kept}
 use Rattle.base.specs.Truths.{Decides}
-use Rattle.base.proofs.Laws.Decides.{decides-true, decides-false, decides-as, decides-leb, decides-eqb, decides-not, decides-and, decides-not-and, decides-holds, not-holds}
+use Rattle.base.proofs.Laws.Decides.{decides-true, decides-false, decides-as, decides-leb, decides-eqb, decides-not, decides-and, decides-holds, not-holds}
 use Rattle.hex.specs.Lines.{bytesOf}
-use Rattle.policy.specs.Limits.{mostEntities, mostGateways, mostRows, technologies}
+use Rattle.policy.specs.Limits.{mostGateways, mostRows, technologies}
 use Rattle.policy.specs.Model.{Coefficients, Row, Table, noRow, parentsOf}
-use Rattle.policy.specs.Wellformed.{IsEntity, IsRoot, Below, CoefficientsRule, Fits, widths, RowRule}
+use Rattle.policy.specs.Views.{withRow}
+use Rattle.policy.specs.Wellformed.{IsEntity, IsRoot, Below, CoefficientsRule, Fits, RowRule}
 use Rattle.relations.specs.Selectors.{inhabited}
-use Rattle.relations.proofs.Laws.Selectors.{inhabited-ordered, emptyRange-decides}
+use Rattle.relations.proofs.Laws.Selectors.{inhabited-ordered}
 use Rattle.frames.specs.Refusals.{badNumber, emptyRange, protectedNull}
-use Rattle.frames.specs.Faults.{ContentFault, entity-rule, no-root, no-entity, no-technology, low-above-high, null-above-0}
-use Rattle.frames.specs.Parts.{coefficientsFrom, selectorFrom, boxBytes}
+use Rattle.frames.specs.Faults.{aRoot, anEnd, aTechnology, aProtection, Broken, null-above-0}
+use Rattle.frames.specs.Parts.{coefficientsFrom, selectorFrom, boxBytes, boxWidths}
 use Rattle.frames.specs.Progress.{Progress}
-use Rattle.frames.specs.Numbers.{isEntity, isRoot, allRoots}
-use Rattle.frames.specs.Rows.{boxPlace, countPlace, rowLength, rowFrame, SaysRow, allZero, rowNumbers, nullRule, rowContent, rowKind}
+use Rattle.frames.specs.Numbers.{isRoot, allRoots}
+use Rattle.frames.specs.Rows.{boxPlace, countPlace, rowLength, rowFrame, SaysRow, allZero, rowNumbers, rowPlace, nullRule, rowContent, rowKind}
 use Rattle.frames.proofs.Laws.Parts.{coefficients-rule, selector-fits, box-said, box-length, box-read, three-first}
-use Rattle.base.proofs.Laws.Each.{_▹_, all-pass-decides, each-more, one-fails}
+use Rattle.base.proofs.Laws.Each.{all-pass-decides, each-more, one-fails}
 use Rattle.frames.proofs.Laws.Numbers.{isEntity-decides, isRoot-decides}
-use Rattle.policy.proofs.Laws.Changed.{entity-changed, filter-changed, row-changed}
-use Rattle.frames.proofs.Laws.Growing.{Sequenced, Growing, Lawful}
-use Rattle.frames.proofs.Laws.Filters.{ordered-inhabits, ranges-fault}
+use Rattle.policy.proofs.Laws.Changed.{entity-changed, filter-changed, row-changed, counts-rows}
+use Rattle.frames.proofs.Laws.Claims.{Tests, tests-and, tests-one, judges-one, judges-more}
+use Rattle.frames.proofs.Laws.Claims.{tests-root, tests-roots, tests-end, tests-technology, tests-ranges}
+use Rattle.frames.proofs.Laws.Growing.{Sequenced, after-floor, Growing, whole, Lawful}
+use Rattle.frames.proofs.Laws.Filters.{ordered-inhabits}
 
 -- A row of the right length counts at most eight gateways, and ends with them.
 pub row-counted : (ws bs : List ℕ) → rowLength ws bs ≡ true
@@ -156,7 +158,7 @@ pub record RowInRange (ws : List ℕ) (r : Row) : Type 0 where
   pub fits : Fits ws (r .selector)
   pub few : length (r .gateways) ≤ mostGateways
 
-pub row-kept : (t : Table) (r : Row) → RowInRange widths r → refusal (rowContent (parentsOf t) r) ≡ 0 → RowRule t r
+pub row-kept : (t : Table) (r : Row) → RowInRange boxWidths r → refusal (rowContent (parentsOf t) r) ≡ 0 → RowRule t r
 row-kept t r i h =
     let some = inhabited (r .selector) in
     let null = nullRule (r .technology) (r .coefficients) in
@@ -176,68 +178,42 @@ row-kept t r i h =
       gateways = n .1 .1 .1 .1;
     }
 
-module _ (byte : ℕ) (p : Progress) (r : Row) (m : rowKind byte widths .placed p r ≡ true) where
+module _ (p : Progress) (m : rowPlace (p .floored) (length (p .table .rows)) ≡ true) where
   floored : p .floored ≡ 1
   floored = eqb-true _ _ (both (eqb (p .floored) 1) _ m .0)
 
   pub few-rows : length (p .table .rows) < mostRows
   few-rows = ltb-true _ _ (both (eqb (p .floored) 1) _ m .1)
 
-  sequenced-row : Sequenced p → Sequenced (rowKind byte widths .grown r p)
-  sequenced-row q =
-      let done = floored in
+  sequenced-row : (r : Row) → Sequenced p → Sequenced (record { table = withRow r (p .table); floored = p .floored })
+  sequenced-row r q =
       let few = few-rows in
-      record {
-        few-entities = q .few-entities;
-        few-caps = q .few-caps;
-        entities-first = q .entities-first;
-        one-floor = q .one-floor;
-        caps-first = q .caps-first;
-        floor-first = λ h. absurd (omega arith);
-        few-filters = q .few-filters;
-        few-rows = simp length-append (omega arith);
-      }
+      after-floor floored (counts-rows (whole q floored) (p .table .rows ++ (r ∷ [])) (simp length-append (omega arith)))
 
-  growing-row : RowInRange widths r → Growing p → refusal (rowContent (parentsOf (p .table)) r) ≡ 0
-      → Growing (rowKind byte widths .grown r p)
-  growing-row i g c =
+  growing-row : (r : Row) → RowInRange boxWidths r → Growing p → refusal (rowContent (parentsOf (p .table)) r) ≡ 0
+      → Growing (record { table = withRow r (p .table); floored = p .floored })
+  growing-row r i g c =
       let t = p .table in
       record {
-        sequenced = sequenced-row (g .sequenced);
+        sequenced = sequenced-row r (g .sequenced);
         entity = λ k h. entity-changed (g .entity k h);
         cap = g .cap;
         floor = g .floor;
         filter = λ k h. filter-changed (g .filter k h);
         row =
-            each-more (RowRule (rowKind byte widths .grown r p .table)) (t .rows) r noRow (λ k h. row-changed (g .row k h))
+            each-more (RowRule (withRow r t)) (t .rows) r noRow (λ k h. row-changed (g .row k h))
             (row-changed (row-kept t r i c));
       }
 
--- ---- its faults, by their numbers
+-- ---- what it claims
 
--- One of its numbers is no root's, entity's or technology's.
-abbrev NoNumbers : Table → Row → Type 0
-NoNumbers t r =
-    (IsRoot t (r .holder) → ⊥)
-    ⊎ ((IsEntity t (r .source) → ⊥)
-    ⊎ ((IsEntity t (r .destination) → ⊥)
-    ⊎ ((technologies < r .technology) ⊎ ((e : ℕ) × List·Memᴰ e (r .gateways) × (IsRoot t e → ⊥)))))
-
-numbers-broken : (t : Table) (r : Row) → Decides (not (rowNumbers (parentsOf t) r)) (NoNumbers t r)
-unfolding rowNumbers allRoots
-numbers-broken t r =
-    let root = isRoot (parentsOf t) in
-    let entity = isEntity (parentsOf t) in
-    let known = leb (r .technology) technologies in
-    let gateways = allRoots (parentsOf t) in
-    decides-not-and (root (r .holder)) (entity (r .source) && (entity (r .destination) && (known && gateways (r .gateways))))
-    (decides-not _ (isRoot-decides t (r .holder)))
-    (decides-not-and (entity (r .source)) (entity (r .destination) && (known && gateways (r .gateways)))
-    (decides-not _ (isEntity-decides t (r .source)))
-    (decides-not-and (entity (r .destination)) (known && gateways (r .gateways)) (decides-not _ (isEntity-decides t (r .destination)))
-    (decides-not-and known (gateways (r .gateways))
-    (decides-as (λ n. omega (arith, n)) (λ h k. omega arith) (decides-not known (decides-leb (r .technology) technologies)))
-    (one-fails gateways root refl (λ e l. refl) (λ e. decides-not (root e) (isRoot-decides t e)) (r .gateways)))))
+tests-numbers : (t : Table) (r : Row) → Tests t (rowNumbers (parentsOf t) r) badNumber
+    (aRoot (r .holder) ∷ anEnd (r .source) ∷ anEnd (r .destination) ∷ aTechnology (r .technology) ∷ map aRoot (r .gateways))
+unfolding rowNumbers
+tests-numbers t r =
+    tests-and (tests-root t (r .holder))
+    (tests-and (tests-end t (r .source))
+    (tests-and (tests-end t (r .destination)) (tests-and (tests-technology t (r .technology)) (tests-roots t (r .gateways)))))
 
 null-broken : (technology : ℕ) (c : Coefficients) → Decides (not (nullRule technology c)) ((technology ≡ 0) × ((x : ℕ) × List·Memᴰ x c × (0 < x)))
 unfolding nullRule allZero
@@ -247,58 +223,30 @@ null-broken zero c =
     (λ x. decides-as (λ n. omega (arith, n)) (λ h z. omega arith) (decides-not (eqb x 0) (decides-eqb x 0))) c)
 null-broken (suc n) c = rw (ne-eqb (suc n) 0 (λ z. omega arith)) (decides-false (λ h. omega (arith, h .0)))
 
-numbers-fault : (byte : ℕ) (t : Table) (r : Row) → NoNumbers t r → ContentFault t (rowKind byte widths .judged r) badNumber
-numbers-fault byte t r (inl n) = no-root (r .holder) (List·Memᴰ·head refl) n
-numbers-fault byte t r (inr (inl n)) = no-entity (r .source) (List·Memᴰ·head refl) n
-numbers-fault byte t r (inr (inr (inl n))) = no-entity (r .destination) (List·Memᴰ·tail (List·Memᴰ·head refl)) n
-numbers-fault byte t r (inr (inr (inr (inl h)))) = no-technology (r .technology) (List·Memᴰ·head refl) h
-numbers-fault byte t r (inr (inr (inr (inr h)))) = no-root (h .0) (List·Memᴰ·tail (h .1)) (h .2)
+protection-only : (t : Table) (u : ℕ) (c : Coefficients) (m : ℕ) → Broken t (aProtection u c) m → (nullRule u c ≡ false) × (m ≡ protectedNull)
+protection-only t u c m (null-above-0 v cs x e k h) = (not-holds (nullRule u c) (null-broken u c) (e, (x, k, h)), refl)
 
-row-breaks : (byte : ℕ) (t : Table) (r : Row) → length (t .entities) ≤ mostEntities → (n : ℕ) → ContentFault t (rowKind byte widths .judged r) n
-    → Breaks n (rowContent (parentsOf t) r)
-row-breaks byte t r few n (entity-rule x m h) = absurd (List·Memᴰ·not-nil m)
-row-breaks byte t r few n (no-root e m h) =
-    inl (not-holds (rowNumbers (parentsOf t) r) (numbers-broken t r) (elim (List·Memᴰ·cases-cons m) [ inl q ↦ inl (rw q at h) | inr k ↦ inr (inr (inr (inr (e, k, h)))) ]), omega arith)
-row-breaks byte t r few n (no-entity e m h) =
-    inl (
-      not-holds (rowNumbers (parentsOf t) r) (numbers-broken t r)
-          (elim (List·Memᴰ·cases-cons m) [
-            | inl q ↦ inr (inl (rw q at h))
-            | inr k ↦ let q : e ≡ r .destination = List·Memᴰ·eq-of-singleton k in inr (inr (inl (rw q at h)))
-          ]),
-      omega arith,
-    )
-row-breaks byte t r few n (no-technology u m h) =
-    let q : u ≡ r .technology = List·Memᴰ·eq-of-singleton m in
-    inl (not-holds (rowNumbers (parentsOf t) r) (numbers-broken t r) (inr (inr (inr (inl (omega arith))))), omega arith)
-row-breaks byte t r few n (low-above-high q m h) = inr (inl (not-holds (inhabited (r .selector)) (emptyRange-decides (r .selector)) (q, m, h), omega arith))
-row-breaks byte t r few n (null-above-0 c m k h) =
-    let q : 0 ≡ r .technology = List·Memᴰ·eq-of-singleton m in
-    inr (inr (inl (not-holds (nullRule (r .technology) (r .coefficients)) (null-broken (r .technology) (r .coefficients)) (sym q, (c, k, h)), omega arith)))
+tests-protection : (t : Table) (u : ℕ) (c : Coefficients) → Tests t (nullRule u c) protectedNull (aProtection u c ∷ [])
+tests-protection t u c =
+    tests-one (λ b. let h = null-broken u c .yes (rw b) in null-above-0 u c (h .1 .0) (h .0) (h .1 .1) (h .1 .2)) (protection-only t u c)
 
-pub row-lawful : (byte : ℕ) → Lawful (RowInRange widths) (rowKind byte widths)
+pub row-lawful : (byte : ℕ) → Lawful (RowInRange boxWidths) (rowKind byte boxWidths)
 row-lawful byte =
     record {
-      said = row-said widths;
-      read = row-read widths;
+      said = row-said boxWidths;
+      read = row-read boxWidths;
       in-range = λ l h. record {
         coefficients = coefficients-rule 4 l;
-        fits = selector-fits boxPlace widths l;
-        few = few-gateways widths (bytesOf l) h;
+        fits = selector-fits boxPlace boxWidths l;
+        few = few-gateways boxWidths (bytesOf l) h;
       };
       numbered = λ t r. omega arith;
-      rising = λ t r. omega arith;
-      faults = λ t r few.
-          (λ b. numbers-fault byte t r (numbers-broken t r .yes (rw b)))
-          ▹ (λ b. ranges-fault t (rowKind byte widths .judged r) (r .selector) refl b)
-          ▹ (λ b.
-          let h = null-broken (r .technology) (r .coefficients) .yes (rw b) in
-          null-above-0 (h .1 .0) (List·Memᴰ·head (sym (h .0))) (h .1 .1) (h .1 .2))
-          ▹ tt;
-      breaks = row-breaks byte;
+      judges = λ t r few.
+          judges-more (tests-numbers t r)
+          (judges-more (tests-ranges t (r .selector)) (judges-one (tests-protection t (r .technology) (r .coefficients))));
       one-line = λ p r m. simp length-append (omega arith);
-      sequenced = sequenced-row byte;
-      growing = λ p r i g m c. growing-row byte p r m i g c;
+      sequenced = λ p r m. sequenced-row p m r;
+      growing = λ p r i g m c. growing-row p m r i g c;
     }
 
 -- ---- what keeps the rules is not refused

@@ -13,8 +13,8 @@ use Rattle.hex.specs.Numbers.{numberBytes}
 use Rattle.hex.proofs.Laws.Numbers.{bytes-append, bytes-first, bytes-rest, length-numberBytes, numberBytes-below, numberOf-numberBytes, numberBytes-numberOf}
 use Rattle.policy.specs.Limits.{mostEntities, coefficientCount}
 use Rattle.policy.specs.Model.{Range, Selector, Row, Table}
-use Rattle.policy.specs.Wellformed.{Below, Ordered, Fits, widths, RowRule}
-use Rattle.frames.specs.Parts.{SaysNumber, SaysBox, bytesOfRange, bytesOfBox, boxBytes}
+use Rattle.policy.specs.Wellformed.{Below, Ordered, Fits, RowRule}
+use Rattle.frames.specs.Parts.{SaysNumber, SaysBox, bytesOfRange, bytesOfBox, boxBytes, boxWidths}
 use Rattle.frames.specs.Rows.{countPlace, SaysRow, bytesOfRow}
 
 -- ---- a box
@@ -83,11 +83,11 @@ length-bytesOfRow ws r c s =
     omega (arith, length-bytesOfBox ws (r .selector) s)
 
 -- They say the row, where it keeps its rules.
-pub bytesOfRow-says : (t : Table) (r : Row) → RowRule t r → SaysRow widths (bytesOfRow widths r) r
+pub bytesOfRow-says : (t : Table) (r : Row) → RowRule t r → SaysRow boxWidths (bytesOfRow boxWidths r) r
 bytesOfRow-says t r h =
     record {
-      box = bytesOfBox widths (r .selector);
-      selector = bytesOfBox-says widths (r .selector) (h .selector .ordered) (h .selector .fits);
+      box = bytesOfBox boxWidths (r .selector);
+      selector = bytesOfBox-says boxWidths (r .selector) (h .selector .ordered) (h .selector .fits);
       coefficients = h .coefficients .three;
       few = h .few-gateways;
       bytes = refl;
@@ -108,14 +108,14 @@ below-all [] h i = lit< tt
 below-all (x ∷ l) h zero = h 0 (omega arith)
 below-all (x ∷ l) h (suc i) = below-all l (λ k b. h (suc k) (omega arith)) i
 
-pub bytesOfRow-below : (t : Table) (r : Row) → length (t .entities) ≤ mostEntities → RowRule t r → (i : ℕ) → getD (bytesOfRow widths r) i 0 < 256
+pub bytesOfRow-below : (t : Table) (r : Row) → length (t .entities) ≤ mostEntities → RowRule t r → (i : ℕ) → getD (bytesOfRow boxWidths r) i 0 < 256
 bytesOfRow-below t r few h zero = let a = h .holder .entity in omega arith
 bytesOfRow-below t r few h (suc zero) = let a = h .source in omega arith
 bytesOfRow-below t r few h (suc (suc zero)) = let a = h .destination in omega arith
 bytesOfRow-below t r few h (suc (suc (suc zero))) = let a = h .technology in omega arith
 bytesOfRow-below t r few h (suc (suc (suc (suc i)))) =
-    bytes-append (r .coefficients) (bytesOfBox widths (r .selector) ++ (length (r .gateways) ∷ r .gateways)) (below-all (r .coefficients) (h .coefficients .bytes))
-    (bytes-append (bytesOfBox widths (r .selector)) (length (r .gateways) ∷ r .gateways) (bytesOfBox-below widths (r .selector))
+    bytes-append (r .coefficients) (bytesOfBox boxWidths (r .selector) ++ (length (r .gateways) ∷ r .gateways)) (below-all (r .coefficients) (h .coefficients .bytes))
+    (bytes-append (bytesOfBox boxWidths (r .selector)) (length (r .gateways) ∷ r .gateways) (bytesOfBox-below boxWidths (r .selector))
     (below-all (length (r .gateways) ∷ r .gateways) last))
     i
   where

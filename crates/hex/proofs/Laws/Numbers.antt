@@ -88,7 +88,7 @@ numberBytes-below (suc w) n (suc i) = numberBytes-below w n i
 some-power : (w : ℕ) → 0 < 256 ^ w
 some-power w = lt-of-lt-of-le (lit< tt) (pow-le-pow-right (lit< tt) {i = 0} {j = w} (omega arith))
 
--- They say what is left of the number in so many bytes.
+-- They say what is left of the number in `w` bytes.
 numberOf-rest : (w n : ℕ) → numberOf (numberBytes w n) ≡ n % 256 ^ w
 numberOf-rest zero n = sym (mod-one n)
 numberOf-rest (suc w) n =
@@ -101,7 +101,7 @@ numberOf-rest (suc w) n =
 pub numberOf-numberBytes : (w n : ℕ) → n < 256 ^ w → numberOf (numberBytes w n) ≡ n
 numberOf-numberBytes w n h = numberOf-rest w n ∙ mod-eq-of-lt h
 
--- What stands above so many bytes is not looked at.
+-- What stands above `w` bytes is not looked at.
 numberBytes-low : (w c n : ℕ) → numberBytes w (c * 256 ^ w + n) ≡ numberBytes w n
 numberBytes-low zero c n = refl
 numberBytes-low (suc w) c n =

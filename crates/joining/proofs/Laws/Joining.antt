@@ -9,7 +9,7 @@ use Prim.Native.Nat.{ℕ}
 use native.Mathlib.Omega.{arith}
 use lib.ListN.{length}
 use Rattle.policy.specs.Model.{Row, Table, Coefficients, parentOf}
-use Rattle.policy.specs.Wellformed.{Below, Ordered, widths, RowRule, Wellformed}
+use Rattle.policy.specs.Wellformed.{Below, Ordered, rangeWidths, RowRule, Wellformed}
 use Rattle.base.specs.Truths.{Decides}
 use Rattle.base.specs.Bounds.{LeastAbove}
 use Rattle.base.proofs.Laws.Decides.{decides-as, decides-eqb, decides-and}
@@ -112,7 +112,7 @@ joined-kept t w r q h k j =
       null = λ n. larger-below 1 (r .coefficients) (q .coefficients) same (h .null n) (k .null (sym (j .group .technology) ∙ n));
       selector = record {
         ordered = hull-ordered (r .selector) (q .selector) (h .selector .ordered) (k .selector .ordered);
-        fits = hull-fits widths (r .selector) (q .selector) (h .selector .fits) (k .selector .fits);
+        fits = hull-fits rangeWidths (r .selector) (q .selector) (h .selector .fits) (k .selector .fits);
       };
       few-gateways = h .few-gateways;
       gateways = h .gateways;

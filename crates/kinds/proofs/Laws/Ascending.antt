@@ -85,8 +85,8 @@ module _ (t : Table) where
   entries-ascend w =
       let r = rowBlock t in
       let f = filterBlock t in
-      let few-rows : r .things ≤ noSecond = omega (arith, w .few-rows) in
-      let few-filters : f .things ≤ noSecond = omega (arith, w .few-filters) in
+      let few-rows : r .things ≤ noSecond = omega (arith, w .counts .few-rows) in
+      let few-filters : f .things ≤ noSecond = omega (arith, w .counts .few-filters) in
       record {
         rows = ofBlock t r;
         filters = ofBlock t f;

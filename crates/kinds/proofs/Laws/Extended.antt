@@ -89,7 +89,9 @@ module _ (t : Table) (added : List Row) where
     says-rows i j (h, inl k) (paired P b) s =
         rw (old-row i h .0, old-row i h .1, old-row j k .0, old-row j k .1) (λ x. b (pairOf (parentOf t) i j (placed i h x) (placed j k x)))
     says-rows i j (h, inr e) (paired P b) s =
-        rw (le-ltb j (length (t .rows)) (omega (arith, w .few-rows)), le-ltb j (length (t .rows ++ added)) (omega (arith, v .few-rows))) (simp and-false)
+        let few = w .counts .few-rows in
+        let more = v .counts .few-rows in
+        rw (le-ltb j (length (t .rows)) (omega arith), le-ltb j (length (t .rows ++ added)) (omega arith)) (simp and-false)
     says-rows i j old (ofFilters P b) s = refl
 
     says-filters : (i j : ℕ) (k : Kind) → OfFilters k → says (extended added t) k i j ≡ says t k i j

@@ -101,7 +101,7 @@ module _ (t : Table) (i : ℕ) where
         let d = sum-exchange found (b .things) 0 (b .kinds) (b .kind) in
         omega arith
 
-    -- At most so many with each other thing, none with itself, and so many alone.
+    -- At most `most` with each other thing, none with itself, and at most `own` alone.
     thing-few : (most own : ℕ) → i < b .things → ((j : ℕ) → j < b .things → sum (b .kinds) (b .kind) (λ kind. found kind j) ≤ most)
         → sum (b .kinds) (b .kind) (λ kind. found kind i) ≡ 0 → sum (b .kinds) (b .kind) (λ kind. found kind noSecond) ≤ own
         → length (ofThing t b i) + most ≤ b .things * most + own
@@ -131,7 +131,7 @@ module _ (t : Table) (w : Wellformed t) (i : ℕ) (hi : IsRow t i) where
   of-two : (j : ℕ) → IsRow t j → sum rowKindCount 1 (λ kind. found t i kind j) ≡ seven j + two j
   unfolding sum anomaly counted
   of-two j hj =
-      let k = w .few-rows in
+      let k = w .counts .few-rows in
       rw (is-row, decides-holds _ (decides-ltb j (length (t .rows))) hj, decides-fails _ (decides-eqb j noSecond) (λ e. omega arith)) (omega arith)
 
   -- At FF: the kinds of one row.
@@ -207,7 +207,7 @@ module _ (t : Table) (w : Wellformed t) (i : ℕ) (hi : IsRow t i) where
   unfolding aloneCount counted
   row-length =
       let a = thing-few t i (rowBlock t) 3 11 hi (λ j h. at-most-three j h) (omega (arith, of-two i hi, no-seven, no-two)) of-one in
-      let f = w .few-rows in
+      let f = w .counts .few-rows in
       omega arith
 
 -- ---- of filter k
@@ -240,7 +240,7 @@ module _ (t : Table) (w : Wellformed t) (k : ℕ) (hk : IsFilter t k) where
   filter-length : length (ofThing t (filterBlock t) k) ≤ mostOfFilter
   filter-length =
       let a = thing-few t k (filterBlock t) 1 0 hk filter-once filter-itself filter-alone in
-      let f = w .few-filters in
+      let f = w .counts .few-filters in
       omega arith
 
 -- ---- all entries
@@ -257,6 +257,6 @@ entries-few t w =
     let e = ap length (entries-blocks t) ∙ length-append (ofBlock t (rowBlock t)) (ofBlock t (filterBlock t)) in
     let a = block-few t (rowBlock t) mostOfRow (row-length t w) in
     let b = block-few t (filterBlock t) mostOfFilter (filter-length t w) in
-    let f = w .few-rows in
-    let g = w .few-filters in
+    let f = w .counts .few-rows in
+    let g = w .counts .few-filters in
     omega arith

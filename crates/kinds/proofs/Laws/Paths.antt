@@ -12,7 +12,7 @@ use lib.ListN.{length}
 use Rattle.policy.specs.Limits.{fieldCount}
 use Rattle.policy.specs.Model.{Selector, Table, rowAt}
 use Rattle.policy.specs.Wellformed.{Wellformed}
-use Rattle.policy.proofs.Laws.Tables.{five-ranges}
+use Rattle.policy.proofs.Laws.Words.{five-ranges}
 use Rattle.base.specs.Truths.{Decides}
 use Rattle.relations.specs.Selectors.{Inhabited, MeetAll, meet}
 use Rattle.base.proofs.Laws.Decides.{decides-as, decides-false, decides-and, decides-not, decides-eqb, decides-ltb, decides-either}

@@ -25,8 +25,8 @@ module _ (t : Table) (w : Wellformed t) (i kind : ℕ) where
       one : (k : Kind) → says t k i noSecond ≡ ofOne (seenOf t) i k
       one noKind = refl
       one (alone P b) = rw (lt-ltb i (length (t .rows)) h)
-      one (paired P b) = let n = w .few-rows in rw (le-ltb noSecond (length (t .rows)) (omega arith)) (simp and-false)
-      one (ofFilters P b) = let n = w .few-filters in rw (le-ltb noSecond (length (t .filters)) (omega arith)) (simp and-false)
+      one (paired P b) = let n = w .counts .few-rows in rw (le-ltb noSecond (length (t .rows)) (omega arith)) (simp and-false)
+      one (ofFilters P b) = let n = w .counts .few-filters in rw (le-ltb noSecond (length (t .filters)) (omega arith)) (simp and-false)
 
   pub anomaly-pair : (j : ℕ) → IsRow t i → IsRow t j → OfRows (kindAt kind) → anomaly t i kind j ≡ getD (pairTests (pairAt t i j)) kind false
   unfolding anomaly
@@ -34,7 +34,7 @@ module _ (t : Table) (w : Wellformed t) (i kind : ℕ) where
     where
       two : (k : Kind) → OfRows k → says t k i j ≡ ofTwo (pairAt t i j) k
       two noKind o = refl
-      two (alone P b) o = let n = w .few-rows in rw (ne-eqb j noSecond (λ e. absurd (omega arith))) (simp and-false)
+      two (alone P b) o = let n = w .counts .few-rows in rw (ne-eqb j noSecond (λ e. absurd (omega arith))) (simp and-false)
       two (paired P b) o = rw (lt-ltb i (length (t .rows)) h, lt-ltb j (length (t .rows)) hj)
       two (ofFilters P b) o = absurd o
 
@@ -58,7 +58,7 @@ module _ (t : Table) (w : Wellformed t) (i kind : ℕ) where
       none noKind o = refl
       none (alone P b) o = absurd o
       none (paired P b) o = absurd o
-      none (ofFilters P b) o = let n = w .few-filters in rw (le-ltb noSecond (length (t .filters)) (omega arith)) (simp and-false)
+      none (ofFilters P b) o = let n = w .counts .few-filters in rw (le-ltb noSecond (length (t .filters)) (omega arith)) (simp and-false)
 
 -- The tests of rows fail at kinds of filters, those of filters at kinds of rows.
 pub no-row : (s : Seen) (i kind : ℕ) → OfFilters (kindAt kind) → getD (rowTests s i) kind false ≡ false

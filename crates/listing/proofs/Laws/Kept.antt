@@ -28,7 +28,7 @@ use Rattle.kinds.proofs.Laws.Blocks.{filter-kind}
 use Rattle.kinds.proofs.Laws.Entries.{gather-same, entries-blocks}
 use Rattle.kinds.proofs.Laws.Splits.{anomaly-filter}
 use Rattle.kinds.proofs.Laws.Few.{entries-few}
-use Rattle.listing.specs.Marks.{MarkedAlone, MarkedPairs, MarkedFilters, filterMarks, markAt, rowCount, listedIf, kindMarked, thingMarked, blockMarked}
+use Rattle.listing.specs.Marks.{MarkedPairs, MarkedFilters, filterMarks, markAt, rowCount, listedIf, kindMarked, thingMarked, blockMarked}
 use Rattle.listing.proofs.Laws.Puts.{from, from-begun, from-none}
 use Rattle.listing.proofs.Laws.Tables.{aloneAt, pairedAt, alone-row-kinds, paired-row-kinds, own-listed, pair-listed, row-count, filter-listed, filter-unlisted, filters-count}
 
@@ -104,14 +104,14 @@ module _ (t : TableStruct) (z : Sized t) (held : Held t) (w : Wellformed (tableO
 
   -- row i more: its kinds alone are m
   module _ {own pairs after : List ℕ} {n i m : ℕ} (g : Marking t roots own pairs n i) (h : i < t .rows)
-      (o : MarkedAlone (t .parents) (t .masks) (t .caps) (t .floor) (t .filters) (t .«filter_roots») (t .«filter_actions») (t .heads) (t .bounds) roots (t .rows) i m)
+      (o : m ≡ aloneAt t roots i)
       (p : MarkedPairs (t .parents) (t .heads) (t .bounds) roots (t .rows) i pairs after) where
     paired-more : (k j : ℕ) → k < i + 1 → j < t .rows → markAt after k j ≡ pairedAt t roots k j
     paired-more = pairs-more (pairedAt t roots) (t .rows) i pairs after (p .stored) (held .rows) h (g .pairs-long) (g .paired)
 
     counted-more : n + rowCount m after (t .rows) i + length (from (ofThing T (rowBlock T)) (t .rows) (i + 1)) ≡ length (ofBlock T (rowBlock T))
     counted-more =
-        let a = row-count t z held w roots r i h m after (o .marks) (λ j l. paired-more i j (omega arith) l) in
+        let a = row-count t z held w roots r i h m after o (λ j l. paired-more i j (omega arith) l) in
         let b = ap length (from-begun (ofThing T (rowBlock T)) (t .rows) i h) ∙ length-append (ofThing T (rowBlock T) i) (from (ofThing T (rowBlock T)) (t .rows) (i + 1)) in
         let c = g .count in
         omega arith
@@ -130,7 +130,7 @@ module _ (t : TableStruct) (z : Sized t) (held : Held t) (w : Wellformed (tableO
         record {
           own-long = length-set own i m ∙ g .own-long;
           pairs-long = ap length (p .stored) ∙ length-sets pairs (mostRows * i) (tabulate (pairedAt t roots i) (t .rows)) ∙ g .pairs-long;
-          alone = filled-more 0 (aloneAt t roots) own i m (let b = g .own-long in omega arith) (g .alone) (o .marks);
+          alone = filled-more 0 (aloneAt t roots) own i m (let b = g .own-long in omega arith) (g .alone) o;
           paired = paired-more;
           own-row-kinds = sets-keep RowKindsOnly 0 own i (m ∷ []) (let b = g .own-long in omega arith) (g .own-row-kinds) own-new;
           pairs-row-kinds = subst (λ (l : List ℕ). (k : ℕ) → RowKindsOnly (getD l k 0)) (sym (p .stored))
@@ -140,7 +140,7 @@ module _ (t : TableStruct) (z : Sized t) (held : Held t) (w : Wellformed (tableO
         }
       where
         own-new : (k : ℕ) → k < 1 → RowKindsOnly (getD (m ∷ []) k 0)
-        own-new k b = let e : k ≡ 0 = omega arith in rw (e, o .marks) (alone-row-kinds t roots i)
+        own-new k b = let e : k ≡ 0 = omega arith in rw (e, o) (alone-row-kinds t roots i)
 
   -- every row is marked, and each two filters
   module _ {own pairs after : List ℕ} {n i m : ℕ} (g : Marking t roots own pairs n i) (e : i ≡ t .rows)

@@ -25,7 +25,7 @@ use Rattle.verdicts.specs.Verdicts.{isNone}
 use Rattle.verdicts.proofs.Laws.Tables.{lent-verdict}
 use Rattle.kinds.specs.Meanings.{IsRow, sourceRoot, destinationRoot}
 use Rattle.kinds.specs.Views.{fromIn, toIn, Ends, Rooted}
-use Rattle.kinds.specs.Seen.{Seen, seenOf, seenIn, pairIn}
+use Rattle.kinds.specs.Seen.{Seen, seenOf, pairIn}
 use Rattle.kinds.specs.Kinds.{kinds, rowKindCount, filterKindCount, kindCount, noSecond, anomaly, ofOne, ofTwo, ofTwoFilters, rowTests, pairTests, filterTests}
 use Rattle.kinds.specs.declared.pair.Pair.{Pair}
 use Rattle.kinds.specs.Entries.{sum, rowBlock, filterBlock, ofThing, ofBlock}
@@ -36,7 +36,8 @@ use Rattle.kinds.proofs.Laws.Blocks.{row-kind, filter-kind}
 use Rattle.kinds.proofs.Laws.Splits.{anomaly-pair, anomaly-row, anomaly-filters, anomaly-filter, no-row, no-pair, no-filters}
 use Rattle.kinds.proofs.Laws.Alike.{Alike, pair-alike, row-alike}
 use Rattle.base.specs.Bits.{bitsOf, marked}
-use Rattle.listing.specs.Marks.{GoodRow, GoodRows, GoodAlone, pairMarks, filterMarks, markAt, rowCount}
+use Rattle.listing.specs.Marks.{GoodRow, GoodRows, GoodAlone, seenIn, pairMarks, filterMarks, markAt, rowCount}
+use Rattle.listing.specs.declared.marks.Alone.{Alone}
 use Rattle.base.proofs.Laws.Bits.{marked-bits}
 use Rattle.listing.proofs.Laws.Ones.{ones-kinds}
 
@@ -57,24 +58,26 @@ last-kinds f g same none =
     let c = sum-none (λ kind. bit (f kind)) rowKindCount 1 (λ kind l m. ap bit (none kind (omega arith))) in
     omega arith
 
--- What the tests look at; the kinds of row i alone, and with row j.
+-- Row i alone; what the tests look at; the kinds of row i alone, and with row j.
+abbrev pub aloneIn : TableStruct → ℕ → Alone
+aloneIn t i = record { caps = t .caps; floor = t .floor; filters = t .filters; rows = t .rows; i = i }
+
 module _ (t : TableStruct) (roots : List ℕ) where
-  abbrev seen : Seen
-  seen =
-      seenIn (t .parents) (t .masks) (map coefficientsOf (t .caps)) (coefficientsOf (t .floor)) (t .filters) (t .«filter_roots») (t .«filter_actions») (t .heads) (t .bounds) roots (t .rows)
+  abbrev seen : ℕ → Seen
+  seen i = seenIn (t .parents) (t .masks) (t .«filter_roots») (t .«filter_actions») (t .heads) (t .bounds) roots (aloneIn t i)
 
   abbrev pub aloneAt : ℕ → ℕ
-  aloneAt i = bitsOf (rowTests seen i)
+  aloneAt i = bitsOf (rowTests (seen i) i)
 
   abbrev pub pairedAt : ℕ → ℕ → ℕ
   pairedAt i j = pairMarks (t .parents) (t .heads) (t .bounds) roots i j
 
   -- they have none of the kinds of filters
   pub alone-row-kinds : (i kind : ℕ) → rowKindCount < kind → marked (aloneAt i) kind ≡ false
-  alone-row-kinds i kind h = marked-bits (rowTests seen i) kind ∙ no-row seen i kind (filter-kind kind h)
+  alone-row-kinds i kind h = marked-bits (rowTests (seen i) i) kind ∙ no-row (seen i) i kind (filter-kind kind h)
 
   pub paired-row-kinds : (i j kind : ℕ) → rowKindCount < kind → marked (pairedAt i j) kind ≡ false
-  paired-row-kinds i j kind h = marked-bits (pairTests (pairIn seen i j)) kind ∙ no-pair (pairIn seen i j) kind (filter-kind kind h)
+  paired-row-kinds i j kind h = marked-bits (pairTests (pairIn (seen i) i j)) kind ∙ no-pair (pairIn (seen i) i j) kind (filter-kind kind h)
 
 module _ (t : TableStruct) (z : Sized t) (held : Held t) (w : Wellformed (tableOf t)) where
   abbrev T : Table
@@ -93,7 +96,7 @@ module _ (t : TableStruct) (z : Sized t) (held : Held t) (w : Wellformed (tableO
   caps-same : map coefficientsOf (t .caps) ≡ T .caps
   caps-same =
       let a = count .caps in
-      let b = w .six-caps in
+      let b = w .counts .six-caps in
       let c = z .caps in
       let e : t .capped ≡ technologies = omega arith in
       sym (ap (map coefficientsOf) (take-all (t .capped) (t .caps) (omega arith)))
@@ -107,7 +110,7 @@ module _ (t : TableStruct) (z : Sized t) (held : Held t) (w : Wellformed (tableO
   pub good-rows : GoodRows (t .heads) (t .bounds) (t .rows)
   good-rows i h =
       let r = w .row i (is-row i h) in
-      let n = w .few-entities in
+      let n = w .counts .few-entities in
       subst GoodRow (sym (row-same i h))
       (record { source = omega (arith, r .source); destination = omega (arith, r .destination); technology = r .technology; ordered = r .selector .ordered })
 
@@ -137,7 +140,7 @@ module _ (t : TableStruct) (z : Sized t) (held : Held t) (w : Wellformed (tableO
       to-entity = root-entity _ _ to-same (w .row i (is-row i h) .destination)
 
       -- what is asked for the kinds of row i
-      pub good-alone : Parents (t .parents) → GoodAlone (t .parents) (t .heads) (t .bounds) roots (t .filters) (t .rows) i
+      pub good-alone : Parents (t .parents) → GoodAlone (t .parents) (t .heads) (t .bounds) roots (aloneIn t i)
       good-alone p =
           let n = held .entities in
           let m = held .rows in
@@ -154,8 +157,8 @@ module _ (t : TableStruct) (z : Sized t) (held : Held t) (w : Wellformed (tableO
     mask : (e k : ℕ) → e < t .entities → e ≡ k → getD (t .masks) e 0 ≡ entityAt T k .mask
     mask e k b q = sym (mask-same t e b) ∙ ap (λ (x : ℕ). entityAt T x .mask) q
 
-    alike : Alike (seen t roots) (seenOf T)
-    alike =
+    alike : (i : ℕ) → Alike (seen t roots i) (seenOf T)
+    alike i =
         record {
           up = parents;
           caps = caps-same;
@@ -173,13 +176,13 @@ module _ (t : TableStruct) (z : Sized t) (held : Held t) (w : Wellformed (tableO
     module _ (i : ℕ) (h : i < t .rows) where
       pub own-listed : (own : ℕ) → own ≡ aloneAt t roots i → (kind : ℕ) → marked own kind ≡ anomaly T i kind noSecond
       own-listed own o kind =
-          ap (λ (n : ℕ). marked n kind) o ∙ marked-bits (rowTests (seen t roots) i) kind ∙ ap (λ (l : List Bool). getD l kind false) (row-alike alike i h)
+          ap (λ (n : ℕ). marked n kind) o ∙ marked-bits (rowTests (seen t roots i) i) kind ∙ ap (λ (l : List Bool). getD l kind false) (row-alike (alike i) i h)
           ∙ sym (anomaly-row T w i kind (is-row i h))
 
       pub pair-listed : (j : ℕ) → j < t .rows → (kind : ℕ) → kind ≤ rowKindCount → marked (pairedAt t roots i j) kind ≡ anomaly T i kind j
       pair-listed j k kind b =
-          marked-bits (pairTests (pairIn (seen t roots) i j)) kind
-          ∙ ap (λ (q : Pair). getD (pairTests q) kind false) (pair-alike alike i j h k)
+          marked-bits (pairTests (pairIn (seen t roots i) i j)) kind
+          ∙ ap (λ (q : Pair). getD (pairTests q) kind false) (pair-alike (alike i) i j h k)
           ∙ sym (anomaly-pair T w i kind j (is-row i h) (is-row j k) (row-kind kind b))
 
       pub row-count : (own : ℕ) (pairs : List ℕ) → own ≡ aloneAt t roots i → ((j : ℕ) → j < t .rows → markAt pairs i j ≡ pairedAt t roots i j)
@@ -187,17 +190,17 @@ module _ (t : TableStruct) (z : Sized t) (held : Held t) (w : Wellformed (tableO
       row-count own pairs o p =
           let g : ℕ → ℕ = λ j. sum rowKindCount 1 (λ kind. bit (anomaly T i kind j)) in
           let a =
-          ones-kinds (map (ofOne (seen t roots) i) kinds) own (λ kind. anomaly T i kind noSecond) o (own-listed own o)
+          ones-kinds (map (ofOne (seen t roots i) i) kinds) own (λ kind. anomaly T i kind noSecond) o (own-listed own o)
           ∙ first-kinds (λ kind. anomaly T i kind noSecond) (λ kind. anomaly T i kind noSecond) (λ kind b. refl) (λ kind b. anomaly-filter T w i kind (filter-kind kind b)) in
           let b =
           sum-same (λ j. ones (markAt pairs i j)) g (t .rows) 0
           (λ j l k.
-          let q = pairTests (pairIn (seen t roots) i j) in
+          let q = pairTests (pairIn (seen t roots i) i j) in
           ap ones (p j (omega arith))
-          ∙ ones-kinds (map (ofTwo (pairIn (seen t roots) i j)) kinds) (pairedAt t roots i j) (λ kind. getD q kind false) refl (marked-bits q)
+          ∙ ones-kinds (map (ofTwo (pairIn (seen t roots i) i j)) kinds) (pairedAt t roots i j) (λ kind. getD q kind false) refl (marked-bits q)
           ∙ first-kinds (λ kind. getD q kind false) (λ kind. anomaly T i kind j)
           (λ kind c. sym (marked-bits q kind) ∙ pair-listed j (omega arith) kind c)
-          (λ kind c. no-pair (pairIn (seen t roots) i j) kind (filter-kind kind c))) in
+          (λ kind c. no-pair (pairIn (seen t roots i) i j) kind (filter-kind kind c))) in
           let c = thing-counted T i (rowBlock T) in
           let d = ap (λ (n : ℕ). sum n 0 g) rows-counted in
           omega arith

@@ -25,10 +25,10 @@ use Rattle.listing.proofs.list.Statement.{statement}
 use Rattle.listing.proofs.list.Tie as tie
 
 abbrev I : tie.InvT-loop
-I out t roots kept₀ n₀ i₀ kept n i = (i ≤ t .rows) × Marking t roots (kept .own) (kept .pairs) n i
+I out t roots kept₀ caps floor n₀ i₀ kept n i = (i ≤ t .rows) × Marking t roots (kept .own) (kept .pairs) n i
 
 abbrev μ : tie.MeasureT-loop
-μ out t roots kept₀ n₀ i₀ kept n i = t .rows - i
+μ out t roots kept₀ caps floor n₀ i₀ kept n i = t .rows - i
 
 -- what the table keeps
 module _ (s : tie.Start I μ) where
@@ -57,25 +57,26 @@ module _ (c : tie.After-roots-of I μ) where
 
 starts : tie.Need-loop-holds I μ
 starts c =
-    let a = s c in
-    (omega arith, marking-start (t a) (size a) (held a) (well a) _ (rooted c))
+    let r = c .before .before in
+    let a = s r in
+    (omega arith, marking-start (t a) (size a) (held a) (well a) _ (rooted r))
 
 row-asked : tie.Need-of-row-requires I μ
 row-asked c κs =
-    let k = c .before .before .before .before .before .before .before .before .before .before in
-    let r = k .before .before in
+    let k = c .before .before .before .before .before .before .before .before in
+    let r = k .before .before .before .before in
     good-alone (t (s r)) (size (s r)) (held (s r)) (well (s r)) _ (rooted r) (k .before .loop .i) (k .loop-test .taken) (parents (s r))
 
 -- row i, and the kinds of it alone that were found
 module _ (c : tie.After-of-row I μ) where
   abbrev loop : tie.At-loop I μ
-  loop = c .before .before .before .before .before .before .before .before .before .before .before .before
+  loop = c .before .before .before .before .before .before .before .before .before .before
 
   abbrev r : tie.After-roots-of I μ
-  r = loop .before
+  r = loop .before .before .before
 
   h : loop .loop .i < t (s r) .rows
-  h = c .before .before .before .before .before .before .before .before .before .before .before .loop-test .taken
+  h = c .before .before .before .before .before .before .before .before .before .loop-test .taken
 
 pairs-asked : tie.Need-of-pairs-requires I μ
 pairs-asked c κs =
@@ -112,7 +113,7 @@ module _ (c : tie.After-of-filters I μ) where
   last = c .before .before .before .before .before .before .before
 
   abbrev b : tie.Start I μ
-  b = s (last .before)
+  b = s (last .before .before .before)
 
   abbrev es : List Entry
   es = entries (tableOf (t b))
@@ -121,7 +122,7 @@ module _ (c : tie.After-of-filters I μ) where
   all = let k = c .before .before .before .before .before .before .loop-test .left in let m = last .loop .inv .0 in omega arith
 
   done : Marked (t b) (last .loop .kept .own) (c .of-filters .last .1 .1 .1 .1 .0) (last .loop .n + c .of-filters .result)
-  done = marking-all (t b) (size b) (held b) (well b) _ (rooted (last .before)) (last .loop .inv .1) all (c .of-filters .ensures)
+  done = marking-all (t b) (size b) (held b) (well b) _ (rooted (last .before .before .before)) (last .loop .inv .1) all (c .of-filters .ensures)
 
   most : last .loop .n + c .of-filters .result ≤ mostEntries
   most = let n = done .count in let f = entries-few (tableOf (t b)) (well b) in omega arith
@@ -198,7 +199,7 @@ list-spec =
     (λ c. let k = h (o (c .before .before .before)) in let n = held (a (c .before .before .before)) .rows in omega arith)
     (λ c. let k = h (o (c .before .before .before)) in omega arith)
     again
-    (λ c κs. let l = c .before .before .before .before .before .before in (held (s (l .before)) .filters, l .loop .inv .1 .pairs-long))
+    (λ c κs. let l = c .before .before .before .before .before .before in (held (s (l .before .before .before)) .filters, l .loop .inv .1 .pairs-long))
     (λ c. let m = most c in omega arith)
     (λ c. let m = most c in omega arith)
     (λ c. let m = most c in omega arith)

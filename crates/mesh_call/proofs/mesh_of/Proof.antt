@@ -2,57 +2,39 @@
 -- Assumes nothing.
 use borrow.Author.Needs.{needs}
 use native.Mathlib.Omega.{arith}
-use mathlib.Core.Path.{_≡_, sym, ap, _∙_}
-use Prim.Native.Nat.{_<_}
+use mathlib.Core.Path.{sym, ap, _∙_}
 use denote.Ref.{now}
 use Rattle.base.specs.Answers.{returned}
-use Rattle.reader.proofs.Laws.Readers.{table-sized}
-use Rattle.covers.specs.Views.{resultOf}
 use Rattle.covers.proofs.Laws.Tables.{lent-asked}
-use Rattle.mesh.specs.Verdicts.{meshOn, meshIn}
 use Rattle.mesh.proofs.Laws.Tables.{lent-mesh, lent-ordered}
-use Rattle.mesh_call.specs.Calls.{meshOf}
-use Rattle.calls.proofs.Laws.Texts.{Accepted, accepted, row-refused, row-missing}
-use Rattle.mesh_call.proofs.Laws.Calls.{mesh-verdict}
+use Rattle.calls.proofs.Laws.Texts.{Accepted, text-refused, accepted}
+use Rattle.mesh_call.proofs.Laws.Calls.{mesh-verdict, mesh-refused-text, mesh-missing}
 use Rattle.mesh_call.proofs.mesh_of.Statement.{statement}
 use Rattle.mesh_call.proofs.mesh_of.Tie as tie
 
-refused : tie.Need-returns
-unfolding meshOf
-refused c = sym (row-refused meshOn _ (c .before .read .ensures) (c .if1 .taken))
-
 -- the text is accepted
 taken : (c : tie.Else1) → Accepted (now (c .before .before .before .args .text)) (c .before .read .result)
-taken c = let r = c .before .read in accepted _ (table-sized (r .result) (r .ok)) (r .ensures) (c .if1 .left)
-
-no-row : tie.Need-returns-2
-unfolding meshOf
-no-row c = sym (row-missing meshOn _ (taken (c .before)) (omega (arith, c .if2 .taken)))
-
--- and has the row
-there : (c : tie.Else2) → c .before .before .before .before .args .k < c .before .before .read .result .table .rows
-there c = omega (arith, c .if2 .left)
+taken c = let r = c .before .read in accepted _ _ (r .ok) (r .ensures) (c .if1 .left)
 
 told : tie.Need-returns-3
 told c =
     let j = c .before in
     let i = j .before .before .before .before .before in
     let a = taken (i .before) in
-    let t = i .before .before .read .result .table in
-    let n = a .counted .rows in
-    let h = there i in
-    let own : resultOf (j .judge .result) ≡ meshIn (t .parents) (t .heads) (t .bounds) (i .before .before .before .before .args .k) = j .judge .ensures in
-    c .tell .ensures ∙ ap returned (own ∙ lent-mesh _ (a .sized) (a .held) _ h) ∙ sym (mesh-verdict _ _ (a .read) _ (omega arith))
+    c .tell .ensures
+    ∙ ap returned (j .judge .ensures ∙ lent-mesh (i .before .before .read .result .table) (a .sized) (a .held) _ (i .if2 .left))
+    ∙ sym (mesh-verdict _ _ (a .read) _ (omega (arith, a .counted .rows, i .if2 .left)))
 
 pub mesh-of-spec : {M : Type 1} → statement M
 mesh-of-spec =
     tie.close
     (tie.spec
     (λ c κs. search needs)
-    refused
-    no-row
+    (λ c. rw (text-refused (c .before .read .ensures) (c .if1 .taken)) (sym (mesh-refused-text _ _ _)))
+    (λ c. let a = taken (c .before) in rw (a .read) (sym (mesh-missing _ _ (omega (arith, a .counted .rows, c .if2 .taken)))))
     (λ c κs. let e = c .before .before .before .before in
     let a = taken (e .before) in
-    (lent-asked _ (a .sized) (a .held) (a .well) _ (there e), lent-ordered (e .before .before .read .result .table) (a .well) _ (there e)))
+    let h = e .if2 .left in
+    (lent-asked _ (a .sized) (a .held) (a .well) _ h, lent-ordered (e .before .before .read .result .table) (a .well) _ h))
     (λ c κs. search needs)
     told)

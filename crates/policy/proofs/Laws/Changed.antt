@@ -7,7 +7,7 @@ use mathlib.Core.List.{List}
 use lib.ListN.{length, getD}
 use Rattle.policy.specs.Limits.{mostRows}
 use Rattle.policy.specs.Model.{Coefficients, Filter, Row, Table, withRows, noRow}
-use Rattle.policy.specs.Wellformed.{EntityRule, IsRoot, FilterRule, RowRule, Wellformed}
+use Rattle.policy.specs.Wellformed.{EntityRule, IsRoot, FilterRule, RowRule, Counts, Wellformed}
 
 -- The table with all but its entities changed.
 
@@ -40,19 +40,26 @@ module _ {t : Table} {caps : List Coefficients} {floor : Coefficients} {filters 
         gateways = λ k h. root-changed (r .gateways k h);
       }
 
+-- A table with other rows, of which there are few.
+pub counts-rows : {t : Table} → Counts t → (rs : List Row) → length rs ≤ mostRows → Counts (withRows rs t)
+counts-rows c rs few =
+    record {
+      some-entity = c .some-entity;
+      few-entities = c .few-entities;
+      six-caps = c .six-caps;
+      few-filters = c .few-filters;
+      few-rows = few;
+    }
+
 -- A well-formed table with other rows that keep their rules.
 pub wellformed-rows : {t : Table} → Wellformed t → (rs : List Row) → length rs ≤ mostRows
     → ((i : ℕ) → i < length rs → RowRule t (getD rs i noRow)) → Wellformed (withRows rs t)
 wellformed-rows w rs few rules =
     record {
-      some-entity = w .some-entity;
-      few-entities = w .few-entities;
+      counts = counts-rows (w .counts) rs few;
       entity = λ k h. entity-changed (w .entity k h);
-      six-caps = w .six-caps;
       cap = w .cap;
       floor = w .floor;
-      few-filters = w .few-filters;
       filter = λ k h. filter-changed (w .filter k h);
-      few-rows = few;
       row = λ i h. row-changed (rules i h);
     }

@@ -9,9 +9,10 @@ use lib.ListN.{length, getD, set}
 use lib.Seq.{getD-set-same, getD-set-other}
 use Rattle.base.specs.Lists.{tabulate}
 use Rattle.base.proofs.Laws.Lists.{length-tabulate, getD-tabulate, tabulate-same, tabulate-grown}
-use Rattle.policy.specs.Limits.{mostRows, fieldCount, headCount, boundCount}
+use Rattle.policy.specs.Limits.{mostRows, headCount, wordCount}
 use Rattle.policy.specs.Model.{Entity, Selector, Filter, noRow}
-use Rattle.policy.specs.Views.{entityIn, filterIn, rowFrom, rowIn, rowsIn, rangeIn, selectorIn}
+use Rattle.policy.specs.Wellformed.{SelectorRule}
+use Rattle.policy.specs.Views.{entityIn, filterIn, rowFrom, rowIn, rowsIn}
 use Rattle.policy.specs.Writes.{putSelector, putHead}
 use Rattle.policy.proofs.Laws.Runs.{numbers-there, numbers-elsewhere, selector-there, selector-elsewhere}
 
@@ -26,25 +27,17 @@ module _ (heads bounds : List ℕ) (n : ℕ) where
 
 -- ---- after the write of a selector
 
-module _ (bounds : List ℕ) (k : ℕ) (s : Selector) (all : length s ≡ fieldCount) where
-  selector-read : boundCount * k + boundCount ≤ length bounds → selectorIn (putSelector bounds k s) k ≡ s
-  unfolding rangeIn
-  selector-read h = selector-there fieldCount bounds k s all (omega arith)
-
-  selector-stays : (j : ℕ) → (j ≡ k → ⊥) → selectorIn (putSelector bounds k s) j ≡ selectorIn bounds j
-  unfolding rangeIn
-  selector-stays j h = selector-elsewhere fieldCount bounds k s all j h
-
+module _ (bounds : List ℕ) (k : ℕ) (s : Selector) (rule : SelectorRule s) where
   pub filters-kept : (roots actions : List ℕ) (n : ℕ) → k < mostRows
       → tabulate (filterIn roots actions (putSelector bounds k s)) n ≡ tabulate (filterIn roots actions bounds) n
   filters-kept roots actions n h =
       tabulate-same (filterIn roots actions (putSelector bounds k s)) (filterIn roots actions bounds) n
-      (λ j b. rw (selector-stays (mostRows + j) (λ q. omega arith)))
+      (λ j b. rw (selector-elsewhere bounds k s rule (mostRows + j) (λ q. omega arith)))
 
   pub rows-kept : (heads : List ℕ) (n : ℕ) → n ≤ k → rowsIn heads (putSelector bounds k s) n ≡ rowsIn heads bounds n
   rows-kept heads n h =
       tabulate-same (rowIn heads (putSelector bounds k s)) (rowIn heads bounds) n
-      (λ j b. rw (selector-stays j (λ q. omega arith)))
+      (λ j b. rw (selector-elsewhere bounds k s rule j (λ q. omega arith)))
 
 -- ---- one more
 
@@ -72,11 +65,11 @@ pub filters-grown :
     (f : Filter) →
     n < length roots →
     n < length actions →
-    length (f .selector) ≡ fieldCount →
-    boundCount * (mostRows + n) + boundCount ≤ length bounds →
+    SelectorRule (f .selector) →
+    wordCount * (mostRows + n) + wordCount ≤ length bounds →
     tabulate (filterIn (set roots n (f .root)) (set actions n (f .action)) (putSelector bounds (mostRows + n) (f .selector))) (n + 1)
     ≡ tabulate (filterIn roots actions bounds) n ++ (f ∷ [])
-filters-grown roots actions bounds n f r a all h =
+filters-grown roots actions bounds n f r a rule h =
     tabulate-grown
     (filterIn (set roots n (f .root)) (set actions n (f .action)) (putSelector bounds (mostRows + n) (f .selector)))
     (filterIn roots actions bounds)
@@ -86,12 +79,12 @@ filters-grown roots actions bounds n f r a all h =
     rw (
       getD-set-other roots n k (f .root) 0 (λ q. omega arith),
       getD-set-other actions n k (f .action) 0 (λ q. omega arith),
-      selector-stays bounds (mostRows + n) (f .selector) all (mostRows + k) (λ q. omega arith),
+      selector-elsewhere bounds (mostRows + n) (f .selector) rule (mostRows + k) (λ q. omega arith),
     ))
     (rw (
       getD-set-same roots n (f .root) 0 r,
       getD-set-same actions n (f .action) 0 a,
-      selector-read bounds (mostRows + n) (f .selector) all h,
+      selector-there bounds (mostRows + n) (f .selector) rule h,
     ))
 
 pub rows-grown :
@@ -101,10 +94,10 @@ pub rows-grown :
     (s : Selector) →
     length head ≡ headCount →
     headCount * n + headCount ≤ length heads →
-    length s ≡ fieldCount →
-    boundCount * n + boundCount ≤ length bounds →
+    SelectorRule s →
+    wordCount * n + wordCount ≤ length bounds →
     rowsIn (putHead heads n head) (putSelector bounds n s) (n + 1) ≡ rowsIn heads bounds n ++ (rowFrom head s ∷ [])
-rows-grown heads bounds n head s whole h all b =
+rows-grown heads bounds n head s whole h rule b =
     tabulate-grown
     (rowIn (putHead heads n head) (putSelector bounds n s))
     (rowIn heads bounds)
@@ -113,9 +106,9 @@ rows-grown heads bounds n head s whole h all b =
     (λ k b.
     rw (
       numbers-elsewhere headCount heads n head whole k (λ q. omega arith),
-      selector-stays bounds n s all k (λ q. omega arith),
+      selector-elsewhere bounds n s rule k (λ q. omega arith),
     ))
     (rw (
       numbers-there headCount heads n head whole (omega arith),
-      selector-read bounds n s all b,
+      selector-there bounds n s rule b,
     ))

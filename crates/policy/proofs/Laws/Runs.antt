@@ -1,19 +1,25 @@
--- Laws of runs of numbers, things of so many numbers one after another: what was written is read at its place (`..-there`), and what
--- stands at another stays (`..-elsewhere`). Of a range and of ranges from a place on; of a selector with any number of fields; of a thing
--- with any number of numbers. Those of a table's entities, filters and rows are in Lists.antt.
+-- Laws of runs of numbers, things of n numbers one after another: what was written is read at its place (`..-there`), and what
+-- stands at another stays (`..-elsewhere`). Of a thing with any number of numbers, and of a selector, whose words give it back. Those of a table's
+-- entities, filters and rows are in Lists.antt.
 -- Assumes nothing.
-use mathlib.Core.Path.{_≡_, refl, _∙_}
+use mathlib.Core.Path.{_≡_, refl, ap, _∙_}
 use mathlib.Core.List.{List, [], _∷_}
 use Prim.Native.Nat.{ℕ, zero, suc, _+_, _*_, _≤_, _<_}
-use native.Mathlib.Nat.{add-zero, zero-add, mul-suc, mul-le-mul-left}
+use native.Mathlib.Nat.{add-zero, add-assoc, mul-suc, mul-le-mul-left}
 use native.Mathlib.Decide.{decLt}
 use native.Mathlib.Omega.{arith}
-use lib.ListN.{length, getD, set, length-set}
-use lib.Seq.{sets, getD-set-same, getD-set-other}
+use lib.ListN.{length, getD}
+use lib.Seq.{sets}
+use lib.Arith.{digits-div, digits-mod}
+use lib.Pow.{split}
 use Rattle.base.proofs.Laws.Lists.{tabulate-same, tabulate-counted, getD-sets-inside, getD-sets-outside}
-use Rattle.policy.specs.Model.{Range, Selector, noRange}
-use Rattle.policy.specs.Views.{rangeAt, selectorAt, numbersAt}
-use Rattle.policy.specs.Writes.{putRange, putRanges}
+use Rattle.policy.specs.Limits.{fieldCount, wordCount}
+use Rattle.policy.specs.Model.{Selector, noRange}
+use Rattle.policy.specs.Wellformed.{SelectorRule}
+use Rattle.policy.specs.Words.{ofWords, packedRange, portSize, protocolSize, wordsOf, selectorOfWords}
+use Rattle.policy.specs.Views.{numbersAt, rangeIn, selectorIn}
+use Rattle.policy.specs.Writes.{putSelector}
+use Rattle.policy.proofs.Laws.Words.{five-ranges, unpacked-packed, packed-small}
 
 -- ---- things of n numbers each
 
@@ -44,64 +50,53 @@ module _ (n : ℕ) (run : List ℕ) (i : ℕ) (vs : List ℕ) (all : length vs �
       tabulate-same (λ c. getD (sets run (n * i) vs) (n * j + c) 0) (λ c. getD run (n * j + c) 0) n
       (λ c b. getD-sets-outside run (n * i) vs (n * j + c) 0 (λ d a e. apart n j i c d h b (omega arith) e))
 
+-- ---- a selector
+
+-- Its words give it back: the ports' bounds have room in one word, and the protocol's in another.
+pub words-back : (s : Selector) → SelectorRule s → selectorOfWords (wordsOf s) ≡ s
+words-back (from ∷ to ∷ sport ∷ dport ∷ protocol ∷ []) rule =
+    let o = rule .ordered in
+    let f = rule .fits in
+    let small = packed-small portSize dport (omega (arith, o .1 .1 .1 .0, f .1 .1 .1 .0)) (f .1 .1 .1 .0) in
+    rw (
+      split (from .low) 64,
+      split (from .high) 64,
+      split (to .low) 64,
+      split (to .high) 64,
+      digits-div (packedRange portSize sport) small,
+      digits-mod (packedRange portSize sport) small,
+      unpacked-packed portSize sport (f .1 .1 .0),
+      unpacked-packed portSize dport (f .1 .1 .1 .0),
+      unpacked-packed protocolSize protocol (omega (arith, f .1 .1 .1 .1 .0)),
+    )
+words-back [] rule = absurd (rule .fits)
+words-back (a ∷ []) rule = absurd (rule .fits .1)
+words-back (a ∷ b ∷ []) rule = absurd (rule .fits .1 .1)
+words-back (a ∷ b ∷ c ∷ []) rule = absurd (rule .fits .1 .1 .1)
+words-back (a ∷ b ∷ c ∷ d ∷ []) rule = absurd (rule .fits .1 .1 .1 .1)
+words-back (a ∷ b ∷ c ∷ d ∷ e ∷ x ∷ s) rule = absurd (rule .fits .1 .1 .1 .1 .1)
+
+module _ (bounds : List ℕ) (k : ℕ) (s : Selector) (rule : SelectorRule s) where
+  pub selector-there : wordCount * k + wordCount ≤ length bounds → selectorIn (putSelector bounds k s) k ≡ s
+  unfolding rangeIn
+  selector-there h =
+      tabulate-counted (λ f. getD (selectorOfWords (numbersAt wordCount (putSelector bounds k s) k)) f noRange) fieldCount s noRange (five-ranges rule)
+      (λ f b. ap (λ ws. getD (selectorOfWords ws) f noRange) (numbers-there wordCount bounds k (wordsOf s) refl h) ∙ ap (λ (q : Selector). getD q f noRange) (words-back s rule))
+
+  pub selector-elsewhere : (j : ℕ) → (j ≡ k → ⊥) → selectorIn (putSelector bounds k s) j ≡ selectorIn bounds j
+  unfolding rangeIn
+  selector-elsewhere j h = rw (numbers-elsewhere wordCount bounds k (wordsOf s) refl j h)
+
 -- ---- a range
 
-module _ (bounds : List ℕ) (m : ℕ) (r : Range) where
-  length-range : length (putRange bounds m r) ≡ length bounds
-  unfolding putRange
-  length-range = simp length-set
-
-  range-there : 2 * m + 2 ≤ length bounds → rangeAt (putRange bounds m r) m ≡ r
-  unfolding putRange rangeAt
-  range-there h =
-      let more = set bounds (2 * m) (r .low) in
-      rw (
-        getD-set-same more (2 * m + 1) (r .high) 0 (omega (arith, length-set bounds (2 * m) (r .low))),
-        getD-set-other more (2 * m + 1) (2 * m) (r .high) 0 (λ e. omega arith),
-        getD-set-same bounds (2 * m) (r .low) 0 (omega arith),
-      )
-
-  range-elsewhere : (j : ℕ) → (j ≡ m → ⊥) → rangeAt (putRange bounds m r) j ≡ rangeAt bounds j
-  unfolding putRange rangeAt
-  range-elsewhere j h =
-      rw (
-        stays (2 * j) (λ e. h (omega arith)) (λ e. omega arith),
-        stays (2 * j + 1) (λ e. omega arith) (λ e. h (omega arith)),
-      )
-    where
-      stays : (x : ℕ) → (x ≡ 2 * m → ⊥) → (x ≡ 2 * m + 1 → ⊥) → getD (putRange bounds m r) x 0 ≡ getD bounds x 0
-      stays x p q = simp (getD-set-other, p, q)
-
--- ---- ranges from m + f on, any number of them
-
-ranges-elsewhere : (s : Selector) (bounds : List ℕ) (m f j : ℕ) → ((e : ℕ) → f ≤ e → e < f + length s → j ≡ m + e → ⊥)
-    → rangeAt (putRanges bounds m f s) j ≡ rangeAt bounds j
-unfolding putRanges
-ranges-elsewhere [] bounds m f j h = refl
-ranges-elsewhere (r ∷ s) bounds m f j h =
-    ranges-elsewhere s (putRange bounds (m + f) r) m (suc f) j (λ e a b. h e (omega arith) (omega arith))
-    ∙ range-elsewhere bounds (m + f) r j (h f (omega arith) (omega arith))
-
-ranges-there : (s : Selector) (bounds : List ℕ) (m f g : ℕ) → 2 * (m + f + length s) ≤ length bounds → g < length s
-    → rangeAt (putRanges bounds m f s) (m + (f + g)) ≡ getD s g noRange
-unfolding putRanges
-ranges-there [] bounds m f g h b = absurd (omega arith)
-ranges-there (r ∷ s) bounds m f zero h b =
-    rw (add-zero, ranges-elsewhere s (putRange bounds (m + f) r) m (suc f) (m + f) (λ e a b q. omega arith))
-    (range-there bounds (m + f) r (omega arith))
-ranges-there (r ∷ s) bounds m f (suc g) h b =
-    let e : f + suc g ≡ suc f + g = omega arith in
-    rw e (ranges-there s (putRange bounds (m + f) r) m (suc f) g (omega (arith, length-range bounds (m + f) r)) (omega arith))
-
--- ---- a selector of n fields
-
-module _ (n : ℕ) (bounds : List ℕ) (k : ℕ) (s : Selector) (all : length s ≡ n) where
-  pub selector-there : 2 * (n * k + n) ≤ length bounds → selectorAt n (putRanges bounds (n * k) 0 s) k ≡ s
-  selector-there h =
-      tabulate-counted (λ f. rangeAt (putRanges bounds (n * k) 0 s) (n * k + f)) n s noRange all
-      (λ g b. rw zero-add at (ranges-there s bounds (n * k) 0 g (omega arith) (omega arith)))
-
-  pub selector-elsewhere : (j : ℕ) → (j ≡ k → ⊥) → selectorAt n (putRanges bounds (n * k) 0 s) j ≡ selectorAt n bounds j
-  selector-elsewhere j h =
-      tabulate-same (λ f. rangeAt (putRanges bounds (n * k) 0 s) (n * j + f)) (λ f. rangeAt bounds (n * j + f)) n
-      (λ g b. ranges-elsewhere s bounds (n * k) 0 (n * j + g) (λ e a c q. apart n j k g e h b (omega arith) q))
+-- That of an address, from its four words.
+pub address-range : (bounds : List ℕ) (k f : ℕ) → f < 2 →
+    record {
+      low = ofWords (getD bounds (wordCount * k + 4 * f) 0) (getD bounds (wordCount * k + 4 * f + 1) 0);
+      high = ofWords (getD bounds (wordCount * k + 4 * f + 2) 0) (getD bounds (wordCount * k + 4 * f + 3) 0);
+    }
+    ≡ rangeIn bounds k f
+unfolding rangeIn numbersAt
+address-range bounds k zero h = rw (add-zero (wordCount * k))
+address-range bounds k (suc zero) h = rw (add-assoc (wordCount * k) 4 1, add-assoc (wordCount * k) 4 2, add-assoc (wordCount * k) 4 3)
+address-range bounds k (suc (suc f)) h = absurd (omega arith)

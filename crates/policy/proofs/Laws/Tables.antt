@@ -1,10 +1,10 @@
 -- Laws of the table that a struct holds. How long the struct's arrays and the table's lists are; that the struct's parents,
--- layers and masks are the table's; of a well-formed table, that a parent is an earlier entity, and that a selector has five ranges.
+-- layers and masks are the table's; of a well-formed table, that a parent is an earlier entity.
 -- Assumes nothing.
-use mathlib.Core.Path.{_≡_, refl, sym, ap, fun-ext, _∙_}
+use mathlib.Core.Path.{_≡_, sym, ap, fun-ext, _∙_}
 use mathlib.Core.Logic.{⊎-elim}
 use mathlib.Core.List.{List, [], _∷_, map}
-use Prim.Native.Nat.{ℕ, suc, _*_, _≤_, _<_}
+use Prim.Native.Nat.{ℕ, _*_, _≤_, _<_}
 use native.Mathlib.Decide.{decLt}
 use native.Mathlib.Omega.{arith}
 use borrow.Author.Needs.{needs}
@@ -13,10 +13,10 @@ use denote.Struct.Declared.{row}
 use denote.Struct.Laws.{val}
 use lib.ListN.{length, getD, take, length-map, List·getD-eq-default}
 use lib.Seq.{length-take-le}
-use Rattle.policy.specs.Limits.{mostEntities, technologies, mostFilters, mostRows, mostGateways, mostSelectors, fieldCount, headCount, boundCount}
-use Rattle.policy.specs.Model.{Selector, Table, noParent, noEntity, entityAt, parentOf, parentsOf, layersOf}
+use Rattle.policy.specs.Limits.{mostEntities, technologies, mostFilters, mostRows, mostGateways, mostSelectors, headCount, wordCount}
+use Rattle.policy.specs.Model.{Table, noParent, noEntity, entityAt, parentOf, parentsOf, layersOf}
 use Rattle.policy.specs.Views.{coefficientsOf, parentIn, entityIn, filterIn, tableOf, Held}
-use Rattle.policy.specs.Wellformed.{Fits, widths, SelectorRule, Wellformed}
+use Rattle.policy.specs.Wellformed.{Wellformed}
 use Rattle.policy.specs.declared.row.Row.{Row as RowStruct}
 use Rattle.policy.specs.declared.table.Table.{Table as TableStruct}
 use Rattle.base.proofs.Laws.Lists.{getD-default, length-tabulate, getD-tabulate, map-tabulate, tabulate-take}
@@ -37,7 +37,7 @@ pub record Sized (t : TableStruct) : Type 0 where
   pub filter-roots : length (t .«filter_roots») ≡ mostFilters
   pub filter-actions : length (t .«filter_actions») ≡ mostFilters
   pub heads : length (t .heads) ≡ headCount * mostRows
-  pub bounds : length (t .bounds) ≡ boundCount * mostSelectors
+  pub bounds : length (t .bounds) ≡ wordCount * mostSelectors
 
 -- owning an array of structs tells the length of the list of what their records are taken to
 length-mapped : {X Y : Type 0} (f : X → Y) (l : List X) (n : ℕ) → length (map f l) ≡ n → length l ≡ n
@@ -111,12 +111,3 @@ parent-earlier {t} w k h =
       | yes b ↦ ⊎-elim (λ r. absurd (h (r .parent))) (λ o. o .earlier) (w .entity k b)
       | no b ↦ absurd (h (ap (λ x. x .parent) (no-entity t k (omega arith))))
     ]
-
-pub fits-length : (ws : List ℕ) (s : Selector) → Fits ws s → length s ≡ length ws
-fits-length [] [] f = refl
-fits-length [] (r ∷ s) f = absurd f
-fits-length (w ∷ ws) [] f = absurd f
-fits-length (w ∷ ws) (r ∷ s) f = ap suc (fits-length ws s (f .1))
-
-pub five-ranges : {s : Selector} → SelectorRule s → length s ≡ fieldCount
-five-ranges {s} rule = fits-length widths s (rule .fits)

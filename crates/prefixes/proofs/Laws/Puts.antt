@@ -73,7 +73,7 @@ raised-more k (p ∷ ps) = λ i. record { address = raise (p .address) k i; leng
 abbrev pub size : Addresses → ℕ
 size whole = whole .bits / 8 + 1
 
--- The bytes of prefixes that were found where addresses have so many bits.
+-- The bytes of prefixes that were found where addresses have `bits` bits.
 abbrev pub bytesAt : Addresses → ℕ → List Prefix → List ℕ
 bytesAt whole bits ps = prefixBytes (whole .bits / 8) (map (raised (whole .bits - bits)) ps)
 

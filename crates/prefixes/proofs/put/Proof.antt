@@ -14,6 +14,7 @@ use lib.ListN.{length}
 use lib.Seq.{sets, length-sets}
 use Rattle.base.specs.Truths.{bit}
 use Rattle.base.proofs.Laws.Outputs.{writes-not, writes-stored}
+use Rattle.policy.specs.Limits.{numberWidth}
 use Rattle.policy.specs.Views.{value, rangeOf}
 use Rattle.prefixes.specs.Prefixes.{aloneIf, isFirst, isSecond}
 use Rattle.prefixes.specs.Bytes.{prefixBytes, prefixesIn, Held}
@@ -43,7 +44,7 @@ module _ (s : tie.Start I μ) where
   bytes : whole .bits / 8 ≡ s .args .bytes
   bytes = omega arith
 
-  few : length (prefixesIn whole) ≤ 129
+  few : length (prefixesIn whole) ≤ 16 * numberWidth + 1
   few = let m = prefixes-most (8 * s .args .bytes) (rangeOf (s .args .r)) (s .pre .0) in let h = s .pre .1 in omega arith
 
 -- and its prefixes are counted
@@ -59,8 +60,8 @@ module _ (c : tie.After-count I μ) where
       length-prefixBytes (start .args .bytes) (prefixesIn (whole start))
       ∙ ap (λ (n : ℕ). (start .args .bytes + 1) * n) (sym counted)
 
-  nine : start .args .bytes + 1 ≤ 9
-  nine = let h = start .pre .1 in omega arith
+  few-bytes : start .args .bytes + 1 ≤ numberWidth + 1
+  few-bytes = let h = start .pre .1 in omega arith
 
 short : tie.Need-returns I μ
 short c =
@@ -84,7 +85,7 @@ module _ (c : tie.At-loop I μ) where
       λ i. (bytes (start k) i + 1) * sym (counted k) i in
       omega (arith, e, c .before .if1 .left)
 
-  few-places : c .loop .to ≤ 129
+  few-places : c .loop .to ≤ 16 * numberWidth + 1
   few-places = omega (arith, c .loop .inv .few, few (start k))
 
 -- there is more than one address, and the ends are known
@@ -212,7 +213,7 @@ put-spec =
     (λ c. let h = c .before .pre .1 in omega arith)
     (λ c κs. held (c .before))
     (λ c. let h = start c .pre .1 in omega arith)
-    (λ c. omega (arith, mul-le-mul-right (c .count .result) (nine c), counted c, few (start c)))
+    (λ c. omega (arith, mul-le-mul-right (c .count .result) (few-bytes c), counted c, few (start c)))
     short
     (λ c. rw (counted (c .before)) (left-start (whole (start (c .before))) (now (start (c .before) .args .out)) (held (start (c .before)))))
     (λ c κs. search needs) (λ c κs. search needs) (λ c κs. search needs)

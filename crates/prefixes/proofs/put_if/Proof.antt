@@ -12,6 +12,7 @@ use Rattle.base.specs.Truths.{bit}
 use Rattle.base.proofs.Laws.Lists.{sets-after}
 use Rattle.hex.specs.Numbers.{numberBytes}
 use Rattle.hex.proofs.Laws.Numbers.{length-numberBytes}
+use Rattle.policy.specs.Limits.{numberWidth}
 use Rattle.policy.specs.Views.{value}
 use Rattle.prefixes.specs.Prefixes.{aloneIf, raised}
 use Rattle.prefixes.specs.Bytes.{prefixBytes}
@@ -41,7 +42,7 @@ module _ (c : tie.Then1) where
       let m = mul-add (bytes + 1) (s .args .at) 1 in
       omega (arith, ap (λ (n : ℕ). (bytes + 1) * n) e, m, s .pre .room)
 
-  few : bytes ≤ 8
+  few : bytes ≤ numberWidth
   few = let h = s .pre .few in omega arith
 
   length-fits : s .args .bits < 256
@@ -70,10 +71,10 @@ module _ (c : tie.After-slice-known2) where
   out = now (s (t k) .args .out)
 
   abbrev stored : List ℕ
-  stored = c .before .before .put-number .last .1 .1 .0
+  stored = c .before .before .put .last .1 .1 .0
 
   first : stored ≡ sets out place (numberBytes (bytes (t k)) (address k))
-  first = c .before .before .put-number .ensures ∙ ap (λ (n : ℕ). sets out place (numberBytes (bytes (t k)) n)) (known k)
+  first = c .before .before .put .ensures ∙ ap (λ (n : ℕ). sets out place (numberBytes (bytes (t k)) n)) (known k)
 
   long : length stored ≡ length out
   long = ap length first ∙ length-sets out place (numberBytes (bytes (t k)) (address k))

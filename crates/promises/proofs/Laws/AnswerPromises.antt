@@ -26,10 +26,8 @@ use Rattle.analyser.specs.declared.Counted.the-variants.{Count, Refused as Coun
 use Rattle.analyser.proofs.Laws.Calls.{winner-no-row, winner-no-entity}
 use Rattle.analyser.proofs.Laws.Cases.{only, check-refused, check-counts, winner-refused, count-refused, count-told}
 use Rattle.analyser.proofs.Laws.Refused.{check-refused-text, line-refused-text, witness-refused-text, winner-refused-text, list-refused-text}
-use Rattle.analyser.proofs.Laws.Refused.{strike-refused-text, check-accepted, line-missing, witness-missing}
+use Rattle.analyser.proofs.Laws.Refused.{strike-refused-text, join-refused-text, prefixes-refused-text, check-accepted, line-missing, witness-missing}
 use Rattle.analyser.proofs.Laws.Outputs.{list-short, strike-short}
-use Rattle.analyser.proofs.Laws.Joins.{join-refused}
-use Rattle.analyser.proofs.Laws.Prefixes.{prefixes-refused}
 use Rattle.promises.specs.AnswerPromises.{RefusedText, AcceptedText, PacketFields}
 
 -- ---- a call whose answer is known admits one case alone
@@ -67,8 +65,8 @@ refused-text number at =
       winner = λ k p. refused-winner (winner-refused-text number at k (p .source) (p .destination) (packetOf (p .packet)));
       list = λ out. refused-count (list-refused-text number at out);
       strike = λ text out. refused-count (strike-refused-text number at text out);
-      join = λ i j out. refused-count (join-refused (refusedBy number at) i j out number at refl);
-      prefixes = λ k side out. refused-count (prefixes-refused (refusedBy number at) k side out number at refl);
+      join = λ i j out. refused-count (join-refused-text number at i j out);
+      prefixes = λ k side out. refused-count (prefixes-refused-text number at k side out);
     }
 
 pub accepted-text : (r : Parsed) → Wellformed (r .table) → AcceptedText r

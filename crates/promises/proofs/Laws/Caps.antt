@@ -1,7 +1,7 @@
 -- What kinds look at: the bits of a mask, coefficients that are ⪰ others or not, of any lists and of two rows, and the caps among the frames of a table.
 -- Assumes nothing.
 use Prim.Native.Nat.{ℕ, suc, _+_, _-_, _*_, _/_, _%_, _^_, _≤_, _<_}
-use mathlib.Core.Path.{_≡_, refl, sym, ap, _∙_}
+use mathlib.Core.Path.{_≡_, sym, ap, _∙_}
 use mathlib.Core.Logic.{_↔_, inl, inr}
 use mathlib.Core.Bool.{Bool}
 use mathlib.Core.List.{List, [], _∷_, map, List·Memᴰ, List·Memᴰ·not-nil, List·Memᴰ·cases-cons, List·Memᴰ·append-cases}
@@ -19,8 +19,10 @@ use Rattle.base.proofs.Laws.Members.{Some, some-decides}
 use Rattle.relations.specs.Coefficients.{AtLeast}
 use Rattle.frames.specs.Caps.{Cap}
 use Rattle.frames.specs.Kinds.{ofEntity, ofCap, ofFloor, ofFilter, ofRow}
-use Rattle.reader.specs.Frames.{Frame, aFrame, noFrame}
+use Rattle.reader.specs.Frames.{Frame, aFrame, aRow, noFrame}
 use Rattle.reader.specs.Rules.{capFrames, framesOf}
+use Rattle.reader.proofs.Laws.States.{byteIn}
+use Rattle.reader.proofs.Laws.Sequence.{not-among}
 use Rattle.kinds.specs.Meanings.{IsRow, Stronger}
 use Rattle.promises.specs.KindPromises.{HasBit, SomeSmaller, ProtectsLess}
 
@@ -102,14 +104,6 @@ capsIn (aFrame ofFilter v) = []
 capsIn (aFrame ofRow v) = []
 capsIn noFrame = []
 
--- A frame that says no cap is none, and among such frames there is none.
-no-cap : {f : Frame} (v : Cap) → capsIn f ≡ [] → aFrame ofCap v ≡ f → ⊥
-no-cap v n e = let q = ap capsIn e ∙ n in let z : _≡_ {A = ℕ} 0 1 = cc in omega arith
-
-none-said : {A : Type 0} (v : Cap) (f : A → Frame) → ((a : A) → capsIn (f a) ≡ []) → (l : List A) → List·Memᴰ (aFrame ofCap v) (map f l) → ⊥
-none-said v f n [] m = List·Memᴰ·not-nil m
-none-said v f n (a ∷ l) m = elim (List·Memᴰ·cases-cons m) [ inl e ↦ no-cap v (n a) e | inr k ↦ none-said v f n l k ]
-
 -- The caps are in order: that of a technology stands at its place.
 cap-place : (v : Cap) (n : ℕ) (cs : List Coefficients) → List·Memᴰ (aFrame ofCap v) (capFrames n cs)
     → (n ≤ v .technology) × (getD cs (v .technology - n) [] ≡ v .coefficients)
@@ -130,14 +124,14 @@ cap-place v n (c ∷ cs) m = elim (List·Memᴰ·cases-cons m) [
 -- A cap among the frames of a table is that of its technology.
 pub cap-said : (t : Table) (v : Cap) → List·Memᴰ (aFrame ofCap v) (framesOf t) → getD (t .caps) (v .technology - 1) [] ≡ v .coefficients
 cap-said t v m = elim (List·Memᴰ·append-cases (map (aFrame ofEntity) (t .entities)) m) [
-  | inl a ↦ absurd (none-said v (aFrame ofEntity) (λ e. refl) (t .entities) a)
+  | inl a ↦ absurd (not-among (aFrame ofEntity) (aFrame ofCap v) (λ e q. omega arith) (t .entities) a)
   | inr a ↦ elim (List·Memᴰ·append-cases (capFrames 1 (t .caps)) a) [
     | inl b ↦ cap-place v 1 (t .caps) b .1
     | inr b ↦ elim (List·Memᴰ·cases-cons b) [
-      | inl e ↦ absurd (no-cap v refl e)
+      | inl e ↦ let q = ap byteIn e in absurd (omega arith)
       | inr d ↦ elim (List·Memᴰ·append-cases (map (aFrame ofFilter) (t .filters)) d) [
-        | inl x ↦ absurd (none-said v (aFrame ofFilter) (λ f. refl) (t .filters) x)
-        | inr x ↦ absurd (none-said v (aFrame ofRow) (λ r. refl) (t .rows) x)
+        | inl x ↦ absurd (not-among (aFrame ofFilter) (aFrame ofCap v) (λ f q. omega arith) (t .filters) x)
+        | inr x ↦ absurd (not-among aRow (aFrame ofCap v) (λ r q. omega arith) (t .rows) x)
       ]
     ]
   ]

@@ -10,14 +10,15 @@ use Rattle.base.specs.Answers.{Answer, returned, refusedBy, told, given, wrote}
 use Rattle.base.proofs.Laws.Decides.{decided, decides-and, decides-ltb}
 use Rattle.hex.specs.Letters.{InCapitals}
 use Rattle.policy.specs.Model.{Table, rowAt, parentOf}
-use Rattle.policy.specs.Wellformed.{widths, RowRule, Wellformed}
-use Rattle.policy.proofs.Laws.Tables.{five-ranges}
+use Rattle.policy.specs.Wellformed.{RowRule, Wellformed}
+use Rattle.policy.proofs.Laws.Words.{five-ranges}
 use Rattle.relations.specs.Entities.{Tree, AtOrAbove}
 use Rattle.relations.proofs.Laws.Tables.{table-tree}
 use Rattle.relations.proofs.Laws.Groups.{group-self}
 use Rattle.relations.proofs.Laws.Bounds.{lowest-least, larger-least, hull-least}
 use Rattle.joining.specs.Joining.{Joinable}
 use Rattle.joining.proofs.Laws.Joining.{joinable-decides, joinable-swap, joined-least, joined-swap, joined-itself, joined-kept}
+use Rattle.frames.specs.Parts.{boxWidths}
 use Rattle.frames.specs.Kinds.{ofRow, describe}
 use Rattle.frames.specs.Rows.{lineOfRow}
 use Rattle.reader.specs.States.{Parsed, tableRead, parse}
@@ -31,7 +32,8 @@ use Rattle.promises.specs.JoinPromises.{UpperBounds, JoinedRows, JoinPro
 use Rattle.promises.proofs.Laws.Devices.{one-device}
 use Rattle.promises.proofs.Laws.AnswerPromises.{told-count, refused-count, same-answers}
 use Rattle.analyser.proofs.Laws.Calls.{line-row}
-use Rattle.analyser.proofs.Laws.Joins.{Does, join-refused, join-no-row, join-differ, join-asked, join-short, join-whole}
+use Rattle.analyser.proofs.Laws.Refused.{join-refused-text}
+use Rattle.analyser.proofs.Laws.Joins.{Does, join-no-row, join-differ, join-asked, join-short, join-whole}
 
 pub upper-bounds : UpperBounds
 upper-bounds = record { lowest = λ up tree e f. lowest-least up tree f e; coefficients = larger-least; box = hull-least }
@@ -83,7 +85,7 @@ module _ (text : List ℕ) (t : Table) (e : parse text ≡ returned (tableRead t
   own-line : (i : ℕ) → i < length (t .rows) → InCapitals (linePart text (parse text) i) → joinedLine i i t ≡ linePart text (parse text) i
   own-line i h c =
       let line = line-row text t e i h in
-      ap (lineOfRow (describe ofRow .byte) widths) (joined-itself (parentOf t) tree (rowAt t i))
+      ap (lineOfRow (describe ofRow .byte) boxWidths) (joined-itself (parentOf t) tree (rowAt t i))
       ∙ row-own (linePart text (parse text) i) (rowAt t i) (line .line) (line .frame) c
 
   -- What can be joined, by devices.
@@ -131,7 +133,7 @@ module _ (text : List ℕ) (t : Table) (e : parse text ≡ returned (tableRead t
             | inl c ↦ let a = join-asked (parse text) t e i j out (x .0) (x .1) c in
                 let b = join-asked (parse text) t e j i out (x .1) (x .0) (joinable-swap (parentOf t) (rowAt t i) (rowAt t j) c) in
                 let line : joinedLine i j t ≡ joinedLine j i t =
-                ap (lineOfRow (describe ofRow .byte) widths) (joined-swap (parentOf t) tree (rowAt t i) (rowAt t j) c) in
+                ap (lineOfRow (describe ofRow .byte) boxWidths) (joined-swap (parentOf t) tree (rowAt t i) (rowAt t j) c) in
                 (a .0 ∙ ap (λ l. told length (asked l)) line ∙ sym (b .0), a .1 ∙ ap (λ l. wrote (λ m. m) (asked l) out) line ∙ sym (b .1))
             | inr n ↦ both (join-differ (parse text) t e i j out (x .0) (x .1) n)
                 (join-differ (parse text) t e j i out (x .1) (x .0) (λ c. n (joinable-swap (parentOf t) (rowAt t j) (rowAt t i) c)))
@@ -145,6 +147,6 @@ commutes text i j out = let c = go (parse text) refl in (same-answers countAnswe
     go : (x : Answer Parsed) → parse text ≡ x → Does (parse text) i j out (joinOf (parse text) j i out) (joinWritten (parse text) j i out)
     go (returned r) e = join-swap text (r .table) e i j out
     go (refusedBy number line) e =
-        let a = join-refused (parse text) i j out number line e in
-        let b = join-refused (parse text) j i out number line e in
-        (a .0 ∙ sym (b .0), a .1 ∙ sym (b .1))
+        let a = join-refused-text number line i j out in
+        let b = join-refused-text number line j i out in
+        rw e (a .0 ∙ sym (b .0), a .1 ∙ sym (b .1))

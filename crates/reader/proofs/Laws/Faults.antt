@@ -14,16 +14,17 @@ use Rattle.hex.specs.Lines.{isLine, bytesOf}
 use Rattle.hex.proofs.Laws.Lines.{noLine-decides}
 use Rattle.frames.specs.Refusals.{noLine}
 use Rattle.frames.specs.Faults.{ContentFault}
-use Rattle.frames.specs.Progress.{Progress, nothing}
+use Rattle.frames.specs.Progress.{Progress, nothing, allRead}
 use Rattle.frames.specs.Kinds.{describe}
-use Rattle.frames.proofs.Laws.Growing.{Growing, growing-nothing, nothing-faulty}
+use Rattle.frames.proofs.Laws.Claims.{nothing-faulty}
+use Rattle.frames.proofs.Laws.Growing.{Growing, growing-nothing, few-so-far}
 use Rattle.frames.proofs.Laws.Kinds.{lawful}
 use Rattle.reader.specs.Frames.{Frame, aFrame, noFrame}
 use Rattle.reader.specs.States.{checks, grown}
-use Rattle.reader.specs.Rules.{framesOf}
+use Rattle.reader.specs.Rules.{framesSoFar, framesOf}
 use Rattle.reader.specs.Faults.{Begins, readFrames, judgedOf, Fault, no-line, no-form, no-place, bad-content}
 use Rattle.reader.proofs.Laws.Forms.{isFrame, form-decides}
-use Rattle.reader.proofs.Laws.Sequence.{framesSoFar, so-far-more, begins-so-far}
+use Rattle.reader.proofs.Laws.Sequence.{so-far-more, begins-so-far}
 use Rattle.reader.proofs.Laws.Leads.{Leads, placedFrame, InPlace, places-lead}
 use Rattle.reader.proofs.Laws.Rules.{lineFrame}
 
@@ -59,7 +60,7 @@ module _ (before : List Frame) (p : Progress) (r : Reached before p) where
   begins-placed : (f : Frame) → Begins (before ++ (f ∷ [])) → placedFrame p f ≡ true
   begins-placed f b =
       let whole : before ++ (f ∷ b .further) ≡ framesOf (b .table) = sym (append-assoc before (f ∷ []) (b .further)) ∙ b .sequence in
-      let l : Leads InPlace nothing (before ++ (f ∷ b .further)) (record { table = b .table; floored = 1 }) = rw whole (places-lead (b .table) (b .counts)) in
+      let l : Leads InPlace nothing (before ++ (f ∷ b .further)) (allRead (b .table)) = rw whole (places-lead (b .table) (b .counts)) in
       rw (r .read) at (placed-among nothing before f (b .further) _ l)
 
   -- ---- the conditions of a line
@@ -70,7 +71,7 @@ module _ (before : List Frame) (p : Progress) (r : Reached before p) where
   module _ (l : List ℕ) where
     frame-rising : (f : Frame) → Rising noLine (checks p f)
     unfolding checks
-    frame-rising (aFrame k v) = (omega arith, lawful k .rising (p .table) v)
+    frame-rising (aFrame k v) = (omega arith, lawful k .numbered (p .table) v .0)
     frame-rising noFrame = omega arith
 
     pub line-rising : Rising 0 (lineChecks l)
@@ -80,7 +81,7 @@ module _ (before : List Frame) (p : Progress) (r : Reached before p) where
     unfolding checks
     frame-faults (aFrame k v) e = (
       λ b. no-place (λ h. true≢false (sym (begins-placed (aFrame k v) (rw e at h)) ∙ b)),
-      faults-as content (describe k .content (p .table) v) (lawful k .faults (p .table) v (r .growing .sequenced .few-entities)),
+      faults-as content (describe k .content (p .table) v) (lawful k .judges (p .table) v (few-so-far (r .growing .sequenced)) .faults),
     )
       where
         content : (n : ℕ) → ContentFault (p .table) (describe k .judged v) n → Fault before l n
@@ -103,7 +104,7 @@ module _ (before : List Frame) (p : Progress) (r : Reached before p) where
     frame-breaks noFrame e n (no-place h) = inr (inl (refl, omega arith))
     frame-breaks (aFrame k v) e n (bad-content m h) =
         let h′ : ContentFault (p .table) (describe k .judged v) m = rw (r .read, e) at h in
-        inr (inr (lawful k .breaks (p .table) v (r .growing .sequenced .few-entities) m h′))
+        inr (inr (lawful k .judges (p .table) v (few-so-far (r .growing .sequenced)) .breaks m h′))
     frame-breaks noFrame e n (bad-content m h) =
         let h′ : ContentFault (p .table) (judgedOf noFrame) m = rw (r .read, e) at h in
         absurd (nothing-faulty (p .table) m h′)

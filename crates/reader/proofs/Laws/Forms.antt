@@ -3,16 +3,15 @@
 --   frame-said: they are read as just the frame that they say
 -- Assumes nothing.
 use mathlib.Core.Path.{_≡_, refl, sym, ap, _∙_}
-use mathlib.Core.Logic.{_⊎_, inl, inr, _↔_}
+use mathlib.Core.Logic.{inl, inr, _↔_}
 use mathlib.Core.Bool.{Bool, true, false, false≢true, true≢false}
 use mathlib.Core.List.{List, [], _∷_}
 use Prim.Native.Nat.{ℕ, _+_}
-use native.Mathlib.Decide.{ℕ-discrete}
 use native.Mathlib.Omega.{arith}
 use borrow.Author.Tests.{eq-eqb, lt-ltb, le-leb, eqb-true}
 use lib.ListN.{length, getD, List·getD-eq-default}
 use Rattle.base.specs.Truths.{pick, Decides}
-use Rattle.policy.specs.Wellformed.{widths}
+use Rattle.frames.specs.Parts.{boxWidths}
 use Rattle.frames.specs.Kinds.{FrameName, ofEntity, ofCap, ofFloor, ofFilter, ofRow, describe}
 use Rattle.base.proofs.Laws.Decides.{decides-holds}
 use Rattle.frames.proofs.Laws.Filters.{filterLength-decides}
@@ -20,31 +19,13 @@ use Rattle.frames.proofs.Laws.Rows.{row-counted}
 use Rattle.frames.proofs.Laws.Kinds.{lawful}
 use Rattle.reader.specs.Frames.{Frame, aFrame, noFrame, frameIn, frameOf}
 use Rattle.reader.specs.Forms.{HasForm, entity-form, cap-form, floor-form, filter-form, action-form, row-form, SaysFrame}
-use Rattle.reader.proofs.Laws.States.{kind-own, kind-other}
+use Rattle.reader.proofs.Laws.States.{kind-own, kind-cases}
 
 -- ---- the form of a frame
 
 abbrev pub isFrame : Frame → Bool
 isFrame (aFrame k v) = true
 isFrame noFrame = false
-
--- Which kind's byte it is, or that it is none's.
-kind-cases : (b : ℕ) → ((k : FrameName) × (b ≡ describe k .byte)) ⊎ ((bs : List ℕ) → frameOf (b ∷ bs) ≡ noFrame)
-unfolding frameOf
-kind-cases b =
-    elim (ℕ-discrete b 1) [
-      | yes e ↦ inl (ofEntity, e)
-      | no e1 ↦ elim (ℕ-discrete b 2) [
-        | yes e ↦ inl (ofCap, e)
-        | no e2 ↦ elim (ℕ-discrete b 3) [
-          | yes e ↦ inl (ofFloor, e)
-          | no e3 ↦ elim (ℕ-discrete b 4) [
-            | yes e ↦ inl (ofFilter, e)
-            | no e4 ↦ elim (ℕ-discrete b 5) [ yes e ↦ inl (ofRow, e) | no e5 ↦ inr (λ bs. kind-other b bs e1 e2 e3 e4 e5) ]
-          ]
-        ]
-      ]
-    ]
 
 frame-long : (k : FrameName) (bs : List ℕ) → isFrame (frameIn k bs) ≡ describe k .long bs
 frame-long k bs = go (describe k .long bs)
@@ -81,9 +62,10 @@ long-form ofFloor b bs e h = let l = eqb-true (length bs) 3 h in floor-form e (o
 long-form ofFilter b bs e h =
     let l = filterLength-decides bs .yes h in
     elim (l .0) [ inl n ↦ filter-form e (omega arith) | inr n ↦ action-form e (omega arith) (l .1) ]
-long-form ofRow b bs e h = let c = row-counted widths bs h in row-form (getD bs 33 0) e refl (c .0) (omega (arith, c .1))
+long-form ofRow b bs e h = let c = row-counted boxWidths bs h in row-form (getD bs 33 0) e refl (c .0) (omega (arith, c .1))
 
 framed-form : (b : ℕ) (bs : List ℕ) → isFrame (frameOf (b ∷ bs)) ≡ true → HasForm (b ∷ bs)
+unfolding frameOf
 framed-form b bs h = elim (kind-cases b) [
   | inl k ↦ long-form (k .0) b bs (k .1) (sym (own-long (k .0) b bs (k .1)) ∙ h)
   | inr n ↦ absurd (false≢true (sym (ap isFrame (n bs)) ∙ h))
@@ -123,6 +105,7 @@ said-frame [] noFrame s = no-frame-there [] s
 said-frame (b ∷ bs) noFrame s = no-frame-there (b ∷ bs) s
 
 frame-says : (b : ℕ) (bs : List ℕ) (f : Frame) → frameOf (b ∷ bs) ≡ f → SaysFrame (b ∷ bs) f
+unfolding frameOf
 frame-says b bs f q = elim (kind-cases b) [
   | inl h ↦ own (h .0) (h .1) (describe (h .0) .long bs) refl
   | inr h ↦ rw (← q, h bs) (λ s. form-decides (b ∷ bs) .no (ap isFrame (h bs)) s)

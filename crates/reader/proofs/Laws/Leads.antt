@@ -13,12 +13,12 @@ use borrow.Author.Tests.{eq-eqb, lt-ltb}
 use lib.ListN.{length, getD, length-append}
 use lib.Seq.{append-snoc, getD-append-seam}
 use Rattle.policy.specs.Limits.{mostEntities, mostFilters, mostRows, technologies}
-use Rattle.policy.specs.Model.{Entity, Coefficients, Filter, Row, Table, noFilter, noRow}
-use Rattle.policy.specs.Wellformed.{FilterRule, RowRule, Wellformed}
+use Rattle.policy.specs.Model.{Entity, Coefficients, Filter, Row, Table, withRows, noFilter, noRow}
+use Rattle.policy.specs.Wellformed.{FilterRule, RowRule, Counts, Wellformed}
 use Rattle.base.specs.Checks.{refusal}
 use Rattle.base.proofs.Laws.Checks.{none-broken, one-kept}
 use Rattle.frames.specs.Refusals.{outOfSequence}
-use Rattle.frames.specs.Progress.{Progress, nothing}
+use Rattle.frames.specs.Progress.{Progress, nothing, allRead}
 use Rattle.frames.specs.Kinds.{ofEntity, ofCap, ofFloor, ofFilter, describe}
 use Rattle.frames.proofs.Laws.Entities.{entity-passes}
 use Rattle.frames.proofs.Laws.Filters.{filter-passes}
@@ -26,7 +26,7 @@ use Rattle.frames.proofs.Laws.Rows.{row-passes}
 use Rattle.reader.specs.Frames.{Frame, aFrame, aRow, noFrame}
 use Rattle.reader.specs.States.{checks, grown}
 use Rattle.reader.specs.Rules.{capFrames, framesOf}
-use Rattle.reader.specs.Faults.{Counts}
+use Rattle.reader.proofs.Laws.Sequence.{entitiesCaps}
 
 module _ (May : Progress → Frame → Type 0) where
   abbrev pub Leads : Progress → List Frame → Progress → Type 0
@@ -55,29 +55,17 @@ module _ (May : Progress → Frame → Type 0) where
 
 -- Some of the entities; all of them and some of the caps; after the floor, some of the filters; all and some of the rows.
 abbrev someEntities : List Entity → Progress
-someEntities es = record {
-  table = record { entities = es; caps = []; floor = 0 ∷ 0 ∷ 0 ∷ []; filters = []; rows = [] };
-  floored = 0;
-}
+someEntities es = record { table = entitiesCaps es []; floored = 0 }
 
 module _ (t : Table) where
   abbrev someCaps : List Coefficients → Progress
-  someCaps cs = record {
-    table = record { entities = t .entities; caps = cs; floor = 0 ∷ 0 ∷ 0 ∷ []; filters = []; rows = [] };
-    floored = 0;
-  }
+  someCaps cs = record { table = entitiesCaps (t .entities) cs; floored = 0 }
 
   abbrev someFilters : List Filter → Progress
-  someFilters fs = record {
-    table = record { entities = t .entities; caps = t .caps; floor = t .floor; filters = fs; rows = [] };
-    floored = 1;
-  }
+  someFilters fs = allRead (record { entities = t .entities; caps = t .caps; floor = t .floor; filters = fs; rows = [] })
 
   abbrev someRows : List Row → Progress
-  someRows rs = record {
-    table = record { entities = t .entities; caps = t .caps; floor = t .floor; filters = t .filters; rows = rs };
-    floored = 1;
-  }
+  someRows rs = allRead (withRows rs t)
 
 -- Each frame of the table may come where it stands.
 record Admits (May : Progress → Frame → Type 0) (t : Table) : Type 0 where
@@ -109,7 +97,7 @@ module _ (May : Progress → Frame → Type 0) (t : Table) (a : Admits May t) wh
   unfolding grown
   leads-rows = leads-from May aRow (someRows t) (t .rows) (a .row) (λ done r. refl) [] (t .rows) refl
 
-  leads-table : Leads May nothing (framesOf t) (record { table = t; floored = 1 })
+  leads-table : Leads May nothing (framesOf t) (allRead t)
   unfolding grown
   leads-table =
       leads-append May nothing (someEntities (t .entities)) (someRows t (t .rows)) (map (aFrame ofEntity) (t .entities)) _ leads-entities
@@ -148,7 +136,7 @@ module _ (t : Table) (c : Counts t) where
         row = λ done r rest q. lt-ltb (length done) mostRows (omega (arith, below (t .rows) done rest r q, c .few-rows));
       }
 
-  pub places-lead : Leads InPlace nothing (framesOf t) (record { table = t; floored = 1 })
+  pub places-lead : Leads InPlace nothing (framesOf t) (allRead t)
   places-lead = leads-table InPlace t places
 
 -- ---- frames that are not refused
@@ -157,25 +145,15 @@ abbrev pub Taken : Progress → Frame → Type 0
 Taken p f = refusal (checks p f) ≡ 0
 
 module _ (t : Table) (w : Wellformed t) where
-  counts : Counts t
-  counts =
-      record {
-        some-entity = w .some-entity;
-        few-entities = w .few-entities;
-        six-caps = w .six-caps;
-        few-filters = w .few-filters;
-        few-rows = w .few-rows;
-      }
-
   rules : Admits Taken t
   unfolding checks
   rules =
-      let p = places t counts in
+      let p = places t (w .counts) in
       record {
         entity = λ done e rest q.
             let b = below (t .entities) done rest e q in
             one-kept _ outOfSequence _ (p .entity done e rest q)
-            (entity-passes t done rest e q (omega (arith, w .few-entities)) (w .entity (length done) b));
+            (entity-passes t done rest e q (omega (arith, w .counts .few-entities)) (w .entity (length done) b));
         cap = λ done c rest q. one-kept _ outOfSequence [] (p .cap done c rest q) none-broken;
         floor = one-kept _ outOfSequence [] (p .floor) none-broken;
         filter = λ done f rest q.
@@ -186,7 +164,7 @@ module _ (t : Table) (w : Wellformed t) where
             one-kept _ outOfSequence _ (p .row done r rest q) (row-passes t r rule);
       }
 
-  pub rules-lead : Leads Taken nothing (framesOf t) (record { table = t; floored = 1 })
+  pub rules-lead : Leads Taken nothing (framesOf t) (allRead t)
   rules-lead = leads-table Taken t rules
 
 -- ---- frames of one table
@@ -195,7 +173,7 @@ module _ (t : Table) (w : Wellformed t) where
 abbrev Anyhow : Progress → Frame → Type 0
 Anyhow p f = Unit {0}
 
-leads-anyhow : (t : Table) → Leads Anyhow nothing (framesOf t) (record { table = t; floored = 1 })
+leads-anyhow : (t : Table) → Leads Anyhow nothing (framesOf t) (allRead t)
 leads-anyhow t =
     leads-table Anyhow t
     (record {
@@ -209,5 +187,5 @@ leads-anyhow t =
 pub one-table : (t u : Table) → framesOf t ≡ framesOf u → t ≡ u
 one-table t u e =
     ap (λ p. p .table)
-    (leads-once Anyhow nothing (record { table = t; floored = 1 }) (record { table = u; floored = 1 }) (framesOf t)
+    (leads-once Anyhow nothing (allRead t) (allRead u) (framesOf t)
     (leads-anyhow t) (rw e (leads-anyhow u)))

@@ -39,7 +39,7 @@ table-counted r good ready =
     let h = ready .held .capped in
     counted (r .table) (omega arith)
 
--- Its parents and layers are lent with so many entities.
+-- Its parents and layers are lent with its count of entities.
 module _ (r : Reader) (good : Is (row the-type) r (val the-type the-laws r ∷ [])) (ready : Ready r) where
   pub parents-lent : Lent (r .table .parents) (r .table .entities)
   parents-lent = record { full = table-sized r good .parents; few = ready .held .entities }

@@ -3,7 +3,7 @@
 --   accepted-faultless: a text that is accepted has no fault
 -- Assumes nothing.
 use mathlib.Core.Path.{_≡_, refl, sym, ap, _∙_}
-use mathlib.Core.Bool.{Bool, true, false, false≢true}
+use mathlib.Core.Bool.{Bool, true, false}
 use mathlib.Core.Logic.{_↔_, inl, inr}
 use mathlib.Core.List.{List, [], _∷_, _++_, map, List·Memᴰ, List·Memᴰ·not-nil, List·Memᴰ·cases-cons, List·Memᴰ·append-cases}
 use Prim.Native.Nat.{ℕ, zero, suc, _+_, _≤_, _<_}
@@ -17,19 +17,20 @@ use Rattle.base.specs.Checks.{refusal}
 use Rattle.base.proofs.Laws.Checks.{refusal-holds, refusal-broken, refusal-none, refusal-least, refusal-fault}
 use Rattle.base.proofs.Laws.Lists.{length-none}
 use Rattle.hex.specs.Lines.{isLine}
-use Rattle.policy.specs.Model.{Entity, Coefficients, Table}
+use Rattle.policy.specs.Model.{Coefficients, Table}
 use Rattle.frames.specs.Refusals.{noLine, outOfSequence}
 use Rattle.frames.specs.Progress.{Progress, nothing}
-use Rattle.frames.specs.Kinds.{ofEntity, ofCap, ofFloor, ofFilter, ofRow}
+use Rattle.frames.specs.Kinds.{ofEntity, ofFloor}
+use Rattle.frames.proofs.Laws.Growing.{before-floor, after-floor}
 use Rattle.reader.specs.Lines.{linesOf, restOf}
-use Rattle.reader.specs.Frames.{Frame, aFrame, noFrame}
+use Rattle.reader.specs.Frames.{Frame, aFrame}
 use Rattle.reader.specs.States.{Parsed, tableRead, reading, refused, checks, grown, takeFrame, step, run, finish, parse}
 use Rattle.reader.specs.Rules.{capFrames}
 use Rattle.reader.specs.Faults.{Fault, EndFault, feed-missing, floor-missing, FaultFrom, FaultAt, FirstFault}
 use Rattle.reader.proofs.Laws.Runs.{pick-either}
-use Rattle.reader.proofs.Laws.States.{faultless, faulty, run-refused}
+use Rattle.reader.proofs.Laws.States.{faultless, faulty, byteIn, run-refused}
 use Rattle.reader.proofs.Laws.Wellformed.{in-range, growing-frame}
-use Rattle.reader.proofs.Laws.Sequence.{early-frames, floor-there}
+use Rattle.reader.proofs.Laws.Sequence.{early-frames, floor-there, not-among}
 use Rattle.reader.proofs.Laws.Rules.{lineFrame, so-far-taken}
 use Rattle.reader.proofs.Laws.Faults.{Reached, reached-nothing, read-more, lineChecks, line-rising, line-faults, line-breaks}
 
@@ -77,35 +78,21 @@ module _ (before : List Frame) (p : Progress) (r : Reached before p) (l : List �
 
 -- ---- the text's end
 
-isFloor : Frame → Bool
-isFloor (aFrame ofEntity e) = false
-isFloor (aFrame ofCap c) = false
-isFloor (aFrame ofFloor c) = true
-isFloor (aFrame ofFilter f) = false
-isFloor (aFrame ofRow r) = false
-isFloor noFrame = false
-
-module _ (c : Coefficients) where
-  not-among-entities : (es : List Entity) → List·Memᴰ (aFrame ofFloor c) (map (aFrame ofEntity) es) → ⊥
-  unfolding isFloor
-  not-among-entities [] m = List·Memᴰ·not-nil m
-  not-among-entities (e ∷ es) m = elim (List·Memᴰ·cases-cons m) [ inl q ↦ false≢true (sym (ap isFloor q)) | inr k ↦ not-among-entities es k ]
-
-  not-among-caps : (n : ℕ) (cs : List Coefficients) → List·Memᴰ (aFrame ofFloor c) (capFrames n cs) → ⊥
-  unfolding isFloor
-  not-among-caps n [] m = List·Memᴰ·not-nil m
-  not-among-caps n (d ∷ cs) m = elim (List·Memᴰ·cases-cons m) [ inl q ↦ false≢true (sym (ap isFloor q)) | inr k ↦ not-among-caps (suc n) cs k ]
+floor-no-cap : (c : Coefficients) (n : ℕ) (cs : List Coefficients) → List·Memᴰ (aFrame ofFloor c) (capFrames n cs) → ⊥
+floor-no-cap c n [] m = List·Memᴰ·not-nil m
+floor-no-cap c n (d ∷ cs) m = elim (List·Memᴰ·cases-cons m) [ inl e ↦ let q = ap byteIn e in omega arith | inr k ↦ floor-no-cap c (suc n) cs k ]
 
 module _ (before : List Frame) (p : Progress) (r : Reached before p) (rest : List ℕ) where
   end-early : rest ≡ [] → (p .floored ≡ 1 → ⊥) → EndFault before rest outOfSequence
-  end-early e n = floor-missing e (λ c m.
-      let q = r .growing .sequenced in
-      let z : p .floored ≡ 0 = omega (arith, q .one-floor, n) in
-      let m′ : List·Memᴰ (aFrame ofFloor c) (map (aFrame ofEntity) (p .table .entities) ++ capFrames 1 (p .table .caps)) = rw (← r .frames, early-frames p z (q .floor-first z)) at m in
-      elim (List·Memᴰ·append-cases (map (aFrame ofEntity) (p .table .entities)) m′) [
-        | inl k ↦ not-among-entities c (p .table .entities) k
-        | inr k ↦ not-among-caps c 1 (p .table .caps) k
-      ])
+  end-early e n = floor-missing e (λ c m. elim (r .growing .sequenced) [
+    | before-floor z q ↦
+        let m′ = rw (← r .frames, early-frames p z (q .none-later)) at m in
+        elim (List·Memᴰ·append-cases (map (aFrame ofEntity) (p .table .entities)) m′) [
+          | inl k ↦ not-among (aFrame ofEntity) (aFrame ofFloor c) (λ e q. omega arith) (p .table .entities) k
+          | inr k ↦ floor-no-cap c 1 (p .table .caps) k
+        ]
+    | after-floor f q ↦ n f
+  ])
 
   end-whole : rest ≡ [] → p .floored ≡ 1 → (n : ℕ) → EndFault before rest n → ⊥
   end-whole e f n (feed-missing h) = h e

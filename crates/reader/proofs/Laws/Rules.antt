@@ -19,14 +19,14 @@ use Rattle.base.proofs.Laws.Lists.{length-none}
 use Rattle.reader.specs.Lines.{linesOf, restOf}
 use Rattle.reader.specs.Frames.{Frame, aFrame, noFrame, frameOf}
 use Rattle.base.specs.Answers.{Answer, returned, refusedBy}
-use Rattle.frames.specs.Progress.{Progress, nothing}
+use Rattle.frames.specs.Progress.{Progress, nothing, allRead}
 use Rattle.frames.proofs.Laws.Growing.{Sequenced, Growing, growing-nothing}
 use Rattle.reader.specs.States.{Parsed, tableRead, State, reading, refused, checks, grown, takeFrame, step, run, finish, parse}
-use Rattle.reader.specs.Rules.{KeepsRules}
+use Rattle.reader.specs.Rules.{framesSoFar, KeepsRules}
 use Rattle.reader.proofs.Laws.States.{run-refused}
 use Rattle.reader.proofs.Laws.Runs.{pick-either}
 use Rattle.reader.proofs.Laws.Wellformed.{kept, never-none, growing-frame, in-range, accepted-wellformed}
-use Rattle.reader.proofs.Laws.Sequence.{framesSoFar, so-far-more}
+use Rattle.reader.proofs.Laws.Sequence.{so-far-more}
 use Rattle.reader.proofs.Laws.Leads.{Leads, Taken, rules-lead}
 
 -- The frame of a line.
@@ -83,7 +83,7 @@ run-told (l ∷ ls) n m p q g e =
 
 -- What a state and the text's end are, by what the text is.
 abbrev Ending : State → List ℕ → Answer Parsed → Type 0
-Ending s rest (returned r) = (length rest ≡ 0) × (n : ℕ) × (s ≡ reading n (record { table = r .table; floored = 1 }))
+Ending s rest (returned r) = (length rest ≡ 0) × (n : ℕ) × (s ≡ reading n (allRead (r .table)))
 Ending s rest (refusedBy k n) = Unit {0}
 
 ending : (s : State) (rest : List ℕ) → Ending s rest (finish s rest)
@@ -101,7 +101,7 @@ unfolding parse
 accepted-keeps text t e =
     let s = run (reading 0 nothing) (linesOf text) in
     let x : Ending s (restOf text) (returned (tableRead t)) = rw e at (ending s (restOf text)) in
-    let told = run-told (linesOf text) 0 _ nothing (record { table = t; floored = 1 }) growing-nothing (x .2) in
+    let told = run-told (linesOf text) 0 _ nothing (allRead t) growing-nothing (x .2) in
     record {
       says = record { ended = length-none (restOf text) (x .0); digits = told .digits; frames = told .frames };
       well = accepted-wellformed text t e;
@@ -120,9 +120,8 @@ run-leads (l ∷ ls) n p q d h =
 keeps-accepted : (text : List ℕ) (t : Table) → KeepsRules text t → parse text ≡ returned (tableRead t)
 unfolding parse finish
 keeps-accepted text t k =
-    let p : Progress = record { table = t; floored = 1 } in
-    let h : Leads Taken nothing (map lineFrame (linesOf text)) p = rw (k .says .frames) (rules-lead t (k .well)) in
-    rw (run-leads (linesOf text) 0 nothing p (k .says .digits) h .1, k .says .ended)
+    let h : Leads Taken nothing (map lineFrame (linesOf text)) (allRead t) = rw (k .says .frames) (rules-lead t (k .well)) in
+    rw (run-leads (linesOf text) 0 nothing (allRead t) (k .says .digits) h .1, k .says .ended)
 
 -- ---- the theorem
 

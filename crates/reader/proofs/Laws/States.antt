@@ -1,22 +1,24 @@
 -- Laws of the reader's states:
 --   faultless, faulty, no-frame: what a frame does, by whether a condition is broken
 --   fitOf, fitted, frame-misfit, frame-content, frame-grown: the conditions of a frame of any kind, and what it adds
---   kind-own, kind-other: which kind a kind byte is
+--   kind-own, kind-cases, byteIn: which kind a kind byte is, and that of a frame
 --   run-refused: a refusal stays
 -- Assumes nothing.
 use mathlib.Core.Path.{_≡_, refl}
+use mathlib.Core.Logic.{_⊎_, inl, inr}
 use mathlib.Core.Bool.{Bool, true, false}
 use mathlib.Core.List.{List, [], _∷_}
 use Prim.Native.Nat.{ℕ, suc}
+use native.Mathlib.Decide.{ℕ-discrete}
 use native.Mathlib.Omega.{arith}
 use borrow.Author.Tests.{ne-eqb}
 use Rattle.base.specs.Checks.{refusal}
 use Rattle.base.proofs.Laws.Checks.{refusal-first, refusal-broken}
 use Rattle.frames.specs.Refusals.{wrongForm}
 use Rattle.frames.specs.Progress.{Progress, misfitOf}
-use Rattle.frames.specs.Kinds.{FrameName, ofEntity, ofCap, ofFloor, ofFilter, ofRow, describe}
+use Rattle.frames.specs.Kinds.{FrameName, ofEntity, ofCap, ofFloor, ofFilter, ofRow, describe, frameNames}
 use Rattle.frames.proofs.Laws.Parts.{misfit-none}
-use Rattle.reader.specs.Frames.{Frame, noFrame, frameIn, frameOfKind}
+use Rattle.reader.specs.Frames.{Frame, aFrame, noFrame, frameIn, frameAmong, frameOfKind}
 use Rattle.reader.specs.States.{reading, refused, checks, grown, takeFrame, step, run}
 
 -- ---- a frame
@@ -73,10 +75,22 @@ kind-own ofFloor bs = refl
 kind-own ofFilter bs = refl
 kind-own ofRow bs = refl
 
--- Any other kind is no frame's.
-pub kind-other : (k : ℕ) (bs : List ℕ) → (k ≡ 1 → ⊥) → (k ≡ 2 → ⊥) → (k ≡ 3 → ⊥) → (k ≡ 4 → ⊥) → (k ≡ 5 → ⊥) → frameOfKind k bs ≡ noFrame
+-- The byte is that of one of these kinds, or no frame's of them.
+among-cases : (ks : List FrameName) (b : ℕ) → ((k : FrameName) × (b ≡ describe k .byte)) ⊎ ((bs : List ℕ) → frameAmong ks b bs ≡ noFrame)
+among-cases [] b = inr (λ bs. refl)
+among-cases (k ∷ ks) b = elim (ℕ-discrete b (describe k .byte)) [
+  | yes e ↦ inl (k, e)
+  | no n ↦ elim (among-cases ks b) [ inl h ↦ inl h | inr h ↦ inr (λ bs. rw (ne-eqb b (describe k .byte) n) (h bs)) ]
+]
+
+pub kind-cases : (b : ℕ) → ((k : FrameName) × (b ≡ describe k .byte)) ⊎ ((bs : List ℕ) → frameOfKind b bs ≡ noFrame)
 unfolding frameOfKind
-kind-other k bs a b c d e = rw (ne-eqb k 1 a, ne-eqb k 2 b, ne-eqb k 3 c, ne-eqb k 4 d, ne-eqb k 5 e)
+kind-cases b = among-cases frameNames b
+
+-- The kind byte of a frame, 0 where there is no frame.
+abbrev pub byteIn : Frame → ℕ
+byteIn (aFrame k v) = describe k .byte
+byteIn noFrame = 0
 
 -- ---- runs of lines
 

@@ -4,7 +4,7 @@
 --   growing-frame: what has been read keeps its rules with each frame that is not refused
 --   Read, run-read: after n lines the table has n, and they keep the rules
 --   accepted-wellformed: an accepted table is well-formed
---   refused-line: a refusal is one of 1 to 7, and its line is below 256
+--   refused-line: a refusal's number is from 1 to the last of a text's, and its line is below 256
 -- Assumes nothing.
 use mathlib.Core.Path.{_≡_, refl}
 use mathlib.Core.Bool.{true, false, false≢true}
@@ -21,10 +21,10 @@ use Rattle.hex.specs.Digits.{byteOf}
 use Rattle.hex.specs.Lines.{isLine, bytesOf}
 use Rattle.policy.specs.Model.{Table}
 use Rattle.policy.specs.Wellformed.{Wellformed}
-use Rattle.frames.specs.Refusals.{wrongForm, outOfSequence, protectedNull}
+use Rattle.frames.specs.Refusals.{wrongForm, outOfSequence, lastOfText}
 use Rattle.frames.specs.Progress.{Progress, nothing, linesRead}
 use Rattle.frames.specs.Kinds.{FrameName, Value, describe, frameNames}
-use Rattle.frames.proofs.Laws.Growing.{Growing, growing-nothing}
+use Rattle.frames.proofs.Laws.Growing.{Growing, growing-nothing, whole, few-lines}
 use Rattle.frames.proofs.Laws.Kinds.{InRange, lawful}
 use Rattle.reader.specs.Lines.{linesOf, restOf}
 use Rattle.reader.specs.Frames.{Frame, aFrame, noFrame, frameAmong, frameOfKind, frameOf}
@@ -74,16 +74,16 @@ module _ (p : Progress) where
   one-line (aFrame k v) h = lawful k .one-line p v (kept k v h .0)
   one-line noFrame h = absurd (never-none h)
 
-  checks-numbered : (f : Frame) → Numbered protectedNull (checks p f)
+  checks-numbered : (f : Frame) → Numbered lastOfText (checks p f)
   unfolding checks
-  checks-numbered (aFrame k v) = (omega arith, lawful k .numbered (p .table) v)
+  checks-numbered (aFrame k v) = (omega arith, lawful k .numbered (p .table) v .1)
   checks-numbered noFrame = omega arith
 
 -- ---- a text
 
 -- A refusal by the number k at line n.
 abbrev Small : ℕ → ℕ → Type 0
-Small k n = (n < 256) × ((1 ≤ k) × (k ≤ protectedNull))
+Small k n = (n < 256) × ((1 ≤ k) × (k ≤ lastOfText))
 
 -- After n lines: what has been read has as many, and keeps its rules.
 pub record Read (n : ℕ) (p : Progress) : Type 0 where
@@ -97,10 +97,7 @@ Sound (refused k n) = Small k n
 
 -- The next line is a small number.
 next-small : (n : ℕ) (p : Progress) → Read n p → suc n < 256
-next-small n p r =
-    let g = r .growing in
-    let e = r .lines in
-    omega (arith, g .sequenced .few-entities, g .sequenced .few-caps, g .sequenced .one-floor, g .sequenced .few-filters, g .sequenced .few-rows)
+next-small n p r = omega (arith, r .lines, few-lines (r .growing .sequenced))
 
 frame-sound : (n : ℕ) (p : Progress) (f : Frame) → InFrame f → Read n p → Sound (takeFrame n p f)
 unfolding takeFrame
@@ -111,7 +108,7 @@ frame-sound n p f i r =
     record { lines = cc (r .lines, one-line p f z); growing = growing-frame p f i (r .growing) z })
     (λ e.
     let z = eqb-false (refusal (checks p f)) 0 e in
-    omega (arith, next-small n p r, refusal-most protectedNull (checks p f) (checks-numbered p f)))
+    omega (arith, next-small n p r, refusal-most lastOfText (checks p f) (checks-numbered p f)))
 
 line-sound : (s : State) (line : List ℕ) → Sound s → Sound (step s line)
 unfolding step
@@ -131,17 +128,13 @@ run-read lines n p e = rw e at (run-sound lines)
 
 growing-wellformed : (p : Progress) → Growing p → p .floored ≡ 1 → Wellformed (p .table)
 growing-wellformed p g f =
-    let six = g .sequenced .caps-first f in
+    let c = whole (g .sequenced) f in
     record {
-      some-entity = g .sequenced .entities-first (omega arith);
-      few-entities = g .sequenced .few-entities;
+      counts = c;
       entity = g .entity;
-      six-caps = six;
-      cap = λ k h. g .cap k (omega arith);
+      cap = λ k h. g .cap k (omega (arith, c .six-caps));
       floor = g .floor f;
-      few-filters = g .sequenced .few-filters;
       filter = g .filter;
-      few-rows = g .sequenced .few-rows;
       row = g .row;
     }
 
@@ -166,5 +159,5 @@ parse-sound text = end-sound (run (reading 0 nothing) (linesOf text)) (restOf te
 pub accepted-wellformed : (text : List ℕ) (t : Table) → parse text ≡ returned (tableRead t) → Wellformed t
 accepted-wellformed text t e = rw e at (parse-sound text)
 
-pub refused-line : (text : List ℕ) (k n : ℕ) → parse text ≡ refusedBy k n → (n < 256) × ((1 ≤ k) × (k ≤ protectedNull))
+pub refused-line : (text : List ℕ) (k n : ℕ) → parse text ≡ refusedBy k n → (n < 256) × ((1 ≤ k) × (k ≤ lastOfText))
 refused-line text k n e = rw e at (parse-sound text)

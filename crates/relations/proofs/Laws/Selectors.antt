@@ -1,12 +1,12 @@
 -- Laws of selectors, for any number of fields. Each test is true exactly when the meaning holds: a packet in a selector, ⪰,
--- overlap, some packet in a selector, a low above its high, several selectors that meet, the same selector. ⪰ both ways. Source and
+-- overlap, some packet in a selector, several selectors that meet, the same selector. ⪰ both ways. Source and
 -- destination exchanged. Each relation by the packets of the lows and of the highs.
 -- Assumes nothing.
 use mathlib.Core.Path.{_≡_, refl, sym, ap, _∙_}
 use mathlib.Core.Logic.{_↔_, inl, inr}
-use mathlib.Core.Bool.{Bool, true, not, _&&_, and-eq-true-iff}
+use mathlib.Core.Bool.{Bool, true, _&&_, and-eq-true-iff}
 use mathlib.Core.List.{List, [], _∷_, map-id, List·Memᴰ, List·Memᴰ·head, List·Memᴰ·tail, List·Memᴰ·not-nil, List·Memᴰ·cases-cons}
-use Prim.Native.Nat.{ℕ, suc, _≤_, _<_, max}
+use Prim.Native.Nat.{ℕ, suc, _≤_, max}
 use native.Mathlib.Omega.{arith}
 use borrow.Author.Tests.{leb-true}
 use lib.Dec.{leb, eqb}
@@ -17,8 +17,7 @@ use Rattle.base.specs.Truths.{Decides}
 use Rattle.relations.specs.Ranges.{Within, within, containsRange, overlapsRange, inhabitedRange, sameRange}
 use Rattle.base.specs.Pairs.{Pairwise}
 use Rattle.relations.specs.Selectors.{lows, highs, noneAbove, Holds, holds, Contains, contains, Overlap, overlaps, Inhabited, inhabited, meet, meetAll, MeetAll, exchange, sameSelector}
-use Rattle.base.proofs.Laws.Decides.{decides-true, decides-false, decides-as, decides-leb, decides-eqb, decides-and, decides-not}
-use Rattle.base.proofs.Laws.Each.{one-fails}
+use Rattle.base.proofs.Laws.Decides.{decides-true, decides-false, decides-as, decides-leb, decides-eqb, decides-and}
 use Rattle.base.proofs.Laws.Firsts.{decides-once}
 use Rattle.base.proofs.Laws.Pairs.{pairwise-decides, pairwise-both, pairwise-map}
 
@@ -185,13 +184,6 @@ inhabited-ordered [] h = tt
 inhabited-ordered (r ∷ s) h =
     let all = and-eq-true-iff (inhabitedRange r) (inhabited s) .0 h in
     (leb-true (r .low) (r .high) (all .0), inhabited-ordered s (all .1))
-
--- No packet is in a selector exactly where some low is above its high.
-pub emptyRange-decides : (s : Selector) → Decides (not (inhabited s)) ((r : Range) × List·Memᴰ r s × (r .high < r .low))
-unfolding inhabited
-emptyRange-decides =
-    one-fails inhabited inhabitedRange refl (λ r s. refl)
-    (λ r. decides-as (λ n. omega (arith, n)) (λ h k. omega arith) (decides-not (inhabitedRange r) (decides-leb (r .low) (r .high))))
 
 -- ---- several selectors that meet
 

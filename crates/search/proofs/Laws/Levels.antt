@@ -2,14 +2,14 @@
 -- Assumes nothing.
 use Prim.Native.Nat.{ℕ, zero, suc, _-_, _^_, _≤_, _<_, min}
 use mathlib.Core.Path.{_≡_, refl, sym, ap, subst, _∙_}
-use mathlib.Core.Bool.{true, false, true≢false}
 use mathlib.Core.Logic.{_⊎_, inl, inr}
 use mathlib.Core.List.{List, [], _∷_, List·Memᴰ, List·Memᴰ·not-nil, List·Memᴰ·cases-cons, map, Memᴰ·of-map}
 use native.Mathlib.Omega.{arith}
 use lib.Bits.{bitOr}
 use lib.ListN.{length, take, replicate, length-replicate, length-map}
+use lib.Pow.{pow-pos}
 use Rattle.base.specs.Bits.{marked}
-use Rattle.base.proofs.Laws.Bits.{within-marked, none-marked, one-marked, one-alone}
+use Rattle.base.proofs.Laws.Bits.{within-marked, one-marked, one-alone}
 use Rattle.policy.specs.Model.{Range, Selector, Packet}
 use Rattle.policy.specs.Views.{value, rangeIn}
 use Rattle.policy.specs.declared.number.Number.{Number}
@@ -18,7 +18,7 @@ use Rattle.relations.proofs.Laws.Selectors.{holds-nothing, not-longer}
 use Rattle.covers.specs.Least.{_≤ₚ_, done, Claimed, Right, found, none}
 use Rattle.covers.specs.Sets.{In, Numbered, fieldOf, Narrowed, HeldBy, CoveredBy}
 use Rattle.covers.specs.Views.{BoxNumbers, comes, nextOf}
-use Rattle.search.specs.Covers.{boxIn, highOf, Follows, opening, Furthest, keptCovers, recall, shifted}
+use Rattle.search.specs.Covers.{boxIn, highOf, Follows, opening, Holding, FurthestIfAny, keptCovers, recall, shifted}
 use Rattle.covers.specs.declared.Boxes.{Boxes}
 use Rattle.covers.specs.declared.Next.{Next}
 use Rattle.covers.specs.declared.Next.the-variants.{Value, End}
@@ -55,23 +55,22 @@ keeps-more box s c kept after k d e =
 -- ---- one field of the boxes
 
 module _ (bounds at : List ℕ) where
-  -- The boxes of c, which are of those that hold the packet so far, cover the fields fs, whose ranges in the row are s.
-  pub record Fails (fs : List ℕ) (s : Selector) (a c : ℕ) : Type 0 where
-    pub part : (k : ℕ) → In c k → In a k
+  -- The boxes of c, which are of those that hold the packet so far, P, cover the fields fs, whose ranges in the row are s.
+  pub record Fails (fs : List ℕ) (s : Selector) (P : ℕ → Type 0) (c : ℕ) : Type 0 where
+    pub part : (k : ℕ) → In c k → P k
     pub covers : CoveredBy (boxIn bounds at fs) s c
 
   -- One box that is left covers what is past the last field, nothing.
-  pub fails-last : (high : ℕ → ℕ) (a one : ℕ) → Furthest high a one → Fails [] [] a one
-  fails-last high a one f = record {
-    part = λ k h.
-        let e = one-alone (f .place) k (sym (ap (λ (m : ℕ). marked m k) (f .alone)) ∙ h) in
-        subst (In a) (sym e) (f .among);
+  pub fails-last : (field : ℕ → Range) (set v one : ℕ) → FurthestIfAny field set v one → (one ≡ 0 → ⊥) → Fails [] [] (Holding field set v) one
+  fails-last field set v one (inl f) z = record {
+    part = λ k h. subst (Holding field set v) (sym (one-alone (f .place) k (sym (ap (λ (m : ℕ). marked m k) (f .alone)) ∙ h))) (f .among);
     covers = λ q h. record {
       place = f .place;
       choice = ap (λ (m : ℕ). marked m (f .place)) (f .alone) ∙ one-marked (f .place);
       holds = h;
     };
   }
+  fails-last field set v one (inr n) z = absurd (z (n .0))
 
   -- Field f and the fields fs after it, whose ranges in the row are r and rs.
   module _ (f : ℕ) (fs : List ℕ) (r : Range) (rs : Selector) where
@@ -91,20 +90,21 @@ module _ (bounds at : List ℕ) where
         → HeldBy (boxIn bounds at (f ∷ fs)) K q
     level-end P K n w e = subst (λ (m : Next). Walked (boxIn bounds at (f ∷ fs)) r rs P K (nextOf m)) e w .held
 
-    pub level-fails : (a c : ℕ) (n : Next) → Walked (boxIn bounds at (f ∷ fs)) r rs (In a) (In c) (nextOf n) → n ≡ End → Fails (f ∷ fs) (risen r ∷ rs) a c
-    level-fails a c n w e = record { part = w .part; covers = level-end (In a) (In c) n w e }
+    pub level-fails : (P : ℕ → Type 0) (c : ℕ) (n : Next) → Walked (boxIn bounds at (f ∷ fs)) r rs P (In c) (nextOf n) → n ≡ End
+        → Fails (f ∷ fs) (risen r ∷ rs) P c
+    level-fails P c n w e = record { part = w .part; covers = level-end P (In c) n w e }
 
-    -- The field stands at the value v, and of the boxes P those of a hold it.
-    pub record Stands (P K : ℕ → Type 0) (n : Next) (v : Number) (a : ℕ) : Type 0 where
+    -- The field stands at the value v, and of the boxes P those of Q hold it.
+    pub record Stands (P K : ℕ → Type 0) (n : Next) (v : Number) (Q : ℕ → Type 0) : Type 0 where
       pub walked : Walked (boxIn bounds at (f ∷ fs)) r rs P K (nextOf n)
       pub value-is : n ≡ Value v
-      pub narrowed : Narrowed (fieldOf bounds at f) P (value v) (In a)
+      pub narrowed : Narrowed (fieldOf bounds at f) P (value v) Q
 
-    here : {P K : ℕ → Type 0} (n : Next) {v : Number} {a : ℕ} → Stands P K n v a → Walked (boxIn bounds at (f ∷ fs)) r rs P K (comes (value v))
+    here : {P K Q : ℕ → Type 0} (n : Next) {v : Number} → Stands P K n v Q → Walked (boxIn bounds at (f ∷ fs)) r rs P K (comes (value v))
     here {P} {K} n s = subst (λ (m : Next). Walked (boxIn bounds at (f ∷ fs)) r rs P K (nextOf m)) (s .value-is) (s .walked)
 
     -- The value v comes to nothing by the cover c.
-    module _ {P K : ℕ → Type 0} (n n′ : Next) {v : Number} {a c : ℕ} (s : Stands P K n v a) (u : Fails fs rs a c)
+    module _ {P K Q : ℕ → Type 0} (n n′ : Next) {v : Number} {c : ℕ} (s : Stands P K n v Q) (u : Fails fs rs Q c)
         (o : Follows (highOf bounds at f) c (r .high) (nextOf n′)) where
       low : min (value v) (r .high) ≤ o .least
       low = elim (o .reaches .reached) [
@@ -123,33 +123,35 @@ module _ (bounds at : List ℕ) where
       level-falls = rw (o .next, s .value-is) (left-falls (value v) (o .least) (r .high) low)
 
     -- The cover is added to that of the values before; of the first field all boxes are taken for the cover.
-    pub level-next : {P : ℕ → Type 0} (n n′ : Next) {v : Number} (k : ℕ) {a c : ℕ} → Stands P (In k) n v a → Fails fs rs a c
+    pub level-next : {P Q : ℕ → Type 0} (n n′ : Next) {v : Number} (k : ℕ) {c : ℕ} → Stands P (In k) n v Q → Fails fs rs Q c
         → Follows (highOf bounds at f) c (r .high) (nextOf n′) → Walked (boxIn bounds at (f ∷ fs)) r rs P (In (bitOr k c)) (nextOf n′)
-    level-next n n′ {v} k {a} {c} s u o =
+    level-next n n′ k {c} s u o =
         next n n′ s u o (or-old k c) (or-new k c)
         (λ j i. elim (or-in k c j i) [ inl x ↦ s .walked .part j x | inr y ↦ s .narrowed .part j (u .part j y) ])
 
-    pub first-next : {P : ℕ → Type 0} (n n′ : Next) {v : Number} {a c : ℕ} → Stands P P n v a → Fails fs rs a c
+    pub first-next : {P Q : ℕ → Type 0} (n n′ : Next) {v : Number} {c : ℕ} → Stands P P n v Q → Fails fs rs Q c
         → Follows (highOf bounds at f) c (r .high) (nextOf n′) → Walked (boxIn bounds at (f ∷ fs)) r rs P P (nextOf n′)
     first-next n n′ s u o = next n n′ s u o (λ j i. i) (λ j i. s .narrowed .part j (u .part j i)) (λ j i. i)
 
     -- What is found below the value is the least with it.
-    pub level-found : {P K : ℕ → Type 0} (n : Next) {v : Number} {a : ℕ} (p : Packet) → Stands P K n v a
-        → LeastOf (HeldBy (boxIn bounds at fs) (In a)) rs p → LeastOf (HeldBy (boxIn bounds at (f ∷ fs)) P) (risen r ∷ rs) (value v ∷ p)
+    pub level-found : {P K Q : ℕ → Type 0} (n : Next) {v : Number} (p : Packet) → Stands P K n v Q
+        → LeastOf (HeldBy (boxIn bounds at fs) Q) rs p → LeastOf (HeldBy (boxIn bounds at (f ∷ fs)) P) (risen r ∷ rs) (value v ∷ p)
     level-found n p s m =
         walked-found (boxIn bounds at (f ∷ fs)) (boxIn bounds at fs) (fieldOf bounds at f) (λ k. refl) r rs _ p (here n s) (s .narrowed) m
 
--- Where no box is left past the last field the packet is found.
-pub last-found : (box : ℕ → Selector) (a : ℕ) → a ≡ 0 → LeastOf (HeldBy box (In a)) [] []
-last-found box a e = record {
-  inside = holds-nothing;
-  unclaimed = λ h. true≢false (sym (h .choice) ∙ ap (λ (m : ℕ). marked m (h .place)) e ∙ none-marked (h .place));
-  least = lowest;
-}
-  where
-    lowest : (q : Packet) → Holds [] q → (HeldBy box (In a) q → ⊥) → [] ≤ₚ q
-    lowest [] h f = done
-    lowest (x ∷ q) h f = absurd (not-longer x q h)
+module _ (field : ℕ → Range) (set v : ℕ) where
+  -- Past the last field those are left that hold its value.
+  pub left-last : Narrowed field (In set) v (Holding field set v)
+  left-last = record { part = λ k h. h .0; holds = λ k h. h .1; all = λ k i w. (i, w) }
+
+  -- Where no box is left past the last field the packet is found.
+  pub last-found : (box : ℕ → Selector) (one : ℕ) → FurthestIfAny field set v one → one ≡ 0 → LeastOf (HeldBy box (Holding field set v)) [] []
+  last-found box one (inl f) e = let p = pow-pos (f .place) in let a = f .alone in absurd (omega arith)
+  last-found box one (inr n) e = record { inside = holds-nothing; unclaimed = λ h. n .1 (h .place) (h .choice); least = lowest }
+    where
+      lowest : (q : Packet) → Holds [] q → (HeldBy box (Holding field set v) q → ⊥) → [] ≤ₚ q
+      lowest [] h f = done
+      lowest (x ∷ q) h f = absurd (not-longer x q h)
 
 -- ---- the answer
 

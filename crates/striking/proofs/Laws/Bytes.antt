@@ -180,7 +180,7 @@ module _ (text : List ℕ) (t : Table) (e : parse text ≡ returned (tableRead t
     where
       flagged : (i : ℕ) → i < length (t .rows) → keeps flags others (others + i) ≡ not (dead t i)
       flagged i h =
-          let w = accepted-wellformed text t e .few-rows in
+          let w = accepted-wellformed text t e .counts .few-rows in
           let s : others + i - others ≡ i = omega arith in
           rw (le-ltb (others + i) others (omega arith), s, lt-leb mostRows i (omega arith), d .at i h)
 

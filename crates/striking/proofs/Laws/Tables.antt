@@ -24,7 +24,7 @@ module _ (t : Table) where
 
   pub struck-well : Wellformed t → Wellformed (struck t)
   struck-well w =
-      wellformed-rows w (struck t .rows) (omega (arith, length-struck, kept-rows t .few, w .few-rows))
+      wellformed-rows w (struck t .rows) (omega (arith, length-struck, kept-rows t .few, w .counts .few-rows))
       (λ k h.
       let b : k < length (kept t) = omega (arith, length-struck) in
       subst⁻¹ (RowRule t) (row-struck k b) (w .row (getD (kept t) k 0) (kept-row t k b)))

@@ -49,5 +49,5 @@ module _ (text : List ℕ) (t : Table) (e : parse text ≡ returned (tableRead t
   unfolding struckText
   struck-parses =
       let k = kept-rows t in
-      let w = accepted-wellformed text t e .few-rows in
+      let w = accepted-wellformed text t e .counts .few-rows in
       kept-parses (kept t) (omega (arith, k .few)) (kept-row t)

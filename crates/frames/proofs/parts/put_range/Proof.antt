@@ -15,8 +15,8 @@ returns c =
     let first = second .before .before .before .before in
     let a = first .before .before .before .args in
     sets-after (now (a .bytes)) (a .at) (numberBytes (a .width) (value (a .r .low))) (numberBytes (a .width) (value (a .r .high)))
-    (first .put-number .ensures)
-    (second .put-number2 .ensures)
+    (first .put .ensures)
+    (second .put2 .ensures)
     (let e = length-numberBytes (a .width) (value (a .r .low)) in omega arith)
 
 pub put-range-spec : {M : Type 1} → statement M

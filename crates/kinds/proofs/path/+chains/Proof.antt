@@ -1,7 +1,7 @@
 -- The chain search `chains` meets its contract: no row before j is the next of a chain, and the rows still allowed fall at each call. Assumes nothing.
 use Prim.Native.Nat.{ℕ, suc, _+_, _-_, _≤_, _<_}
 use mathlib.Core.Path.{_≡_, sym, ap, _∙_}
-use mathlib.Core.Bool.{Bool, false}
+use mathlib.Core.Bool.{Bool, true, false}
 use mathlib.Core.List.{List, _∷_}
 use native.Mathlib.Omega.{arith}
 use borrow.Author.Needs.{needs}
@@ -15,9 +15,10 @@ use Rattle.relations.specs.Selectors.{meet}
 use Rattle.kinds.specs.Views.{fromIn, toIn, visitedOf}
 use Rattle.base.specs.Lists.{some}
 use Rattle.kinds.specs.Tests.{chains as chained}
-use Rattle.kinds.specs.Seen.{chainsIn}
+use Rattle.kinds.specs.Seen.{goesOnIn, chainsIn}
+use Rattle.base.proofs.Laws.Decides.{decides-and, decides-not, decides-eqb}
 use Rattle.base.proofs.Laws.Members.{some-start, some-none, some-found}
-use Rattle.kinds.proofs.Laws.Chains.{next, next-off, next-last, next-only, next-on, chains-some, chains-none}
+use Rattle.kinds.proofs.Laws.Chains.{next, next-off, next-elsewhere, next-past, next-last, next-only, next-on, chains-some, chains-none}
 use Rattle.kinds.proofs.path.chains.Reads as chains
 use Rattle.kinds.proofs.path.chains.Kinds as chains-kinds
 use Rattle.kinds.proofs.path.+chains.Lts-chains as lts
@@ -87,36 +88,61 @@ module _ (t : ℕ) where
   starts : lts.Need-loop-holds calls (at t) chains.Post I μ
   starts c = (omega arith, some-start (tests (c .before)))
 
-  off : lts.Need-loop-again calls (at t) chains.Post I μ
-  off c =
-      let g = c .before in
-      let l = g .before .before in
-      let s = l .before .before in
-      (search needs, some-none (tests s) (l .loop .j) (l .loop .inv .1) (next-off _ _ _ _ _ _ _ _ _ (l .loop .j) (sym (g .goes-on .ensures) ∙ not-true _ (c .if2 .taken))))
+  -- a row in the loop: the answer where it is the next of a chain, and that none is up to it where it is not
+  module _ (b : lts.In-loop calls (at t) chains.Post I μ) where
+    abbrev l : lts.At-loop calls (at t) chains.Post I μ
+    l = b .before
+
+    abbrev s : Start
+    s = l .before .before
+
+    answered : tests s (l .loop .j) ≡ true → true ≡ answer s (s .args .left)
+    answered e = sym (whole s (l .before .if1 .left) ∙ some-found (tests s) (s .args .rows) (l .loop .j) (b .loop-test .taken) e)
+
+    passed : tests s (l .loop .j) ≡ false → (l .loop .j + 1 ≤ s .args .rows) × (some (l .loop .j + 1) (tests s) ≡ false)
+    passed e = (search needs, some-none (tests s) (l .loop .j) (l .loop .inv .1) e)
+
+  elsewhere : lts.Need-loop-again calls (at t) chains.Post I μ
+  elsewhere c = passed (c .before .before) (next-elsewhere _ _ _ _ _ _ _ _ _ (c .before .before .before .loop .j) (c .if2 .taken))
+
+  past : lts.Need-loop-again-2 calls (at t) chains.Post I μ
+  past c =
+      let b = c .before .before .before .before in
+      let to = toIn (now (s b .args .roots)) (l b .loop .j) in
+      let e = decides-and _ _ (decides-eqb (s b .args .left) 1) (decides-not _ (decides-eqb to (s b .args .b))) .yes (c .if3 .taken) in
+      passed b (next-past _ _ _ _ _ _ _ _ _ (l b .loop .j) (omega (arith, e .0)) (e .1))
+
+  -- one that begins at the root a: whether it goes on
+  module _ (g : lts.After-goes-on calls (at t) chains.Post I μ) where
+    abbrev b : lts.In-loop calls (at t) chains.Post I μ
+    b = g .before .before .before .before .before
+
+    abbrev j : ℕ
+    j = l b .loop .j
+
+    abbrev goes : ℕ → Bool
+    goes a = goesOnIn (now (s b .args .bounds)) (now (s b .args .roots)) j a (s b .args .visited) (s b .args .s)
+
+    went : goes (s b .args .a) ≡ g .goes-on .result
+    went = sym (g .goes-on .ensures ∙ ap goes (g .before .before .before .if2 .left))
+
+  off : lts.Need-loop-again-3 calls (at t) chains.Post I μ
+  off c = let g = c .before in passed (b g) (next-off _ _ _ _ _ _ _ _ _ (j g) (went g ∙ not-true _ (c .if4 .taken)))
 
   last : lts.Need-returns-2 calls (at t) chains.Post I μ
   last c =
       let e = c .before in
-      let i = e .before .before in
-      let g = i .before in
-      let l = g .before .before in
-      let s = l .before .before in
-      sym
-      (whole s (l .before .if1 .left)
-      ∙ some-found (tests s) (s .args .rows) (l .loop .j) (g .before .loop-test .taken)
-      (next-last _ _ _ _ _ _ _ _ _ (l .loop .j) (sym (g .goes-on .ensures) ∙ not-false _ (i .if2 .left)) (e .if3 .taken) (let h = c .if4 .taken in let n = l .before .if1 .left in omega arith)))
+      let g = e .before .before in
+      let n = l (b g) .before .if1 .left in
+      let h = c .if6 .taken in
+      answered (b g) (next-last _ _ _ _ _ _ _ _ _ (j g) (went g ∙ not-false _ (e .before .if4 .left)) (e .if5 .taken) (omega arith))
 
-  only : lts.Need-loop-again-2 calls (at t) chains.Post I μ
+  only : lts.Need-loop-again-4 calls (at t) chains.Post I μ
   only c =
       let e = c .before in
-      let i = e .before .before in
-      let g = i .before in
-      let l = g .before .before in
-      let s = l .before .before in (
-        search needs,
-        some-none (tests s) (l .loop .j) (l .loop .inv .1)
-            (next-only _ _ _ _ _ _ _ _ _ (l .loop .j) (sym (g .goes-on .ensures) ∙ not-false _ (i .if2 .left)) (e .if3 .taken) (let h = c .if4 .left in omega arith)),
-      )
+      let g = e .before .before in
+      let h = c .if6 .left in
+      passed (b g) (next-only _ _ _ _ _ _ _ _ _ (j g) (went g ∙ not-false _ (e .before .if4 .left)) (e .if5 .taken) (omega arith))
 
   -- the search that goes on from the row's end
   module _ (c : lts.After-chains calls (at t) chains.Post I μ) where
@@ -127,38 +153,28 @@ module _ (t : ℕ) where
     m = w .before
 
     abbrev g : lts.After-goes-on calls (at t) chains.Post I μ
-    g = m .before .before .before .before .before
+    g = m .before .before .before .before
 
-    abbrev l : lts.At-loop calls (at t) chains.Post I μ
-    l = g .before .before
-
-    abbrev s : Start
-    s = l .before .before
-
-    tested : tests s (l .loop .j) ≡ c .chains .result
+    tested : tests (s (b g)) (j g) ≡ c .chains .result
     tested =
-        let from = fromIn (now (s .args .roots)) in
-        let to = toIn (now (s .args .roots)) in
-        let selector = selectorIn (now (s .args .bounds)) in
-        let j = l .loop .j in
+        let a = s (b g) .args in
+        let from = fromIn (now (a .roots)) in
+        let to = toIn (now (a .roots)) in
+        let selector = selectorIn (now (a .bounds)) in
         let q = m .before in
-        next-on from to selector (s .args .rows) (s .args .left - 1) (s .args .b) (s .args .a) (visitedOf (s .args .visited)) (selectorOf (s .args .s)) j
-        (sym (g .goes-on .ensures) ∙ not-false _ (q .before .before .before .if2 .left)) (q .before .if3 .left)
+        next-on from to selector (a .rows) (a .left - 1) (a .b) (a .a) (visitedOf (a .visited)) (selectorOf (a .s)) (j g)
+        (went g ∙ not-false _ (q .before .before .if4 .left)) (q .before .if5 .left)
         ∙ sym
         (c .chains .ensures
-        ∙ ap (λ (v : List ℕ). chained from to selector (s .args .rows) (s .args .left - 1) (s .args .b) (to j) v (selectorOf (m .meet .result))) (w .with .ensures .roots)
-        ∙ ap (chained from to selector (s .args .rows) (s .args .left - 1) (s .args .b) (to j) (to j ∷ visitedOf (s .args .visited)))
-        (m .meet .ensures ∙ ap (meet (selectorOf (s .args .s))) (q .selector-at .ensures)))
+        ∙ ap (λ (v : List ℕ). chained from to selector (a .rows) (a .left - 1) (a .b) (to (j g)) v (selectorOf (m .meet .result))) (w .with .ensures .roots)
+        ∙ ap (chained from to selector (a .rows) (a .left - 1) (a .b) (to (j g)) (to (j g) ∷ visitedOf (a .visited)))
+        (m .meet .ensures ∙ ap (meet (selectorOf (a .s))) (q .selector-at .ensures)))
 
   on : lts.Need-returns-3 calls (at t) chains.Post I μ
-  on c =
-      let k = c .before in
-      sym (whole (s k) (l k .before .if1 .left) ∙ some-found (tests (s k)) (s k .args .rows) (l k .loop .j) (g k .before .loop-test .taken) (tested k ∙ c .if5 .taken))
+  on c = let k = c .before in answered (b (g k)) (tested k ∙ c .if7 .taken)
 
-  no-further : lts.Need-loop-again-3 calls (at t) chains.Post I μ
-  no-further c =
-      let k = c .before in
-      (let h = g k .before .loop-test .taken in omega arith, some-none (tests (s k)) (l k .loop .j) (l k .loop .inv .1) (tested k ∙ c .if5 .left))
+  no-further : lts.Need-loop-again-5 calls (at t) chains.Post I μ
+  no-further c = let k = c .before in passed (b (g k)) (tested k ∙ c .if7 .left)
 
   end : lts.Need-returns-4 calls (at t) chains.Post I μ
   end c =
@@ -171,14 +187,14 @@ module _ (t : ℕ) where
 
   with-room : lts.Need-with-requires calls (at t) chains.Post I μ
   with-room c κs =
-      let i = c .before .before .before .before .before .before .before .before in
+      let i = l (b (c .before .before .before .before)) .before in
       let n = i .if1 .left in
       let r = i .before .pre .1 .1 in
       omega arith
 
   fewer : lts.Need-chains-requires calls (at t) chains.Post I μ
   fewer c κs =
-      let i = c .before .before .before .before .before .before .before .before .before in
+      let i = l (b (c .before .before .before .before .before)) .before in
       let n = i .if1 .left in
       let e = i .before .pre .0 in
       let r = i .before .pre .1 .1 in
@@ -189,6 +205,9 @@ pub +chains-spec : {M : Type 1} → statement M
 +chains-spec =
     close μ-chains
     (λ t.
-    lts.spec (calls t) (at t) chains.Post I μ (none-allowed t) (starts t) (λ c. search needs) (λ c κs. search needs) (λ c. search needs) (off t)
-    (λ c. search needs) (λ c. search needs) (λ c. search needs) (last t) (λ c. search needs) (only t) (λ c κs. search needs) (λ c κs. search needs)
-    (λ c. search needs) (with-room t) (fewer t) (on t) (λ c. search needs) (no-further t) (end t))
+    lts.spec (calls t) (at t) chains.Post I μ (none-allowed t) (starts t)
+    (λ c. search needs) (λ c. search needs) (λ c. search needs) (λ c. search needs) (elsewhere t)
+    (λ c. search needs) (λ c. search needs) (λ c. search needs) (λ c. search needs) (past t) (λ c κs. search needs) (λ c. search needs) (off t)
+    (last t) (λ c. search needs) (only t) (λ c κs. search needs) (λ c κs. search needs)
+    (λ c. let n = l t (b t (c .before .before .before .before)) .before .if1 .left in omega arith) (with-room t) (fewer t) (on t)
+    (λ c. let h = b t (g t (c .before)) .loop-test .taken in omega arith) (no-further t) (end t))

@@ -2,6 +2,7 @@
 use borrow.Author.Needs.{needs}
 use Prim.Native.Nat.{_-_, _≤_}
 use mathlib.Core.Path.{_≡_, ap, _∙_}
+use native.Mathlib.Nat.{le-antisymm}
 use native.Mathlib.Omega.{arith}
 use denote.Ref.{now}
 use Rattle.policy.specs.Model.{Row}
@@ -39,14 +40,6 @@ again c =
           (c .root2 .ensures ∙ ap (λ (q : Row). rootOf up (q .destination)) (read r)),
     )
 
-returns : tie.Need-returns I μ
-returns c =
-    let l = c .before .loop in
-    let h = c .loop-test .left in
-    let m = l .inv .0 in
-    let e : l .i ≡ c .before .before .args .rows = omega arith in
-    rw e at (l .inv .1)
-
 pub roots-of-spec : {M : Type 1} → statement M
 roots-of-spec =
     tie.close
@@ -56,4 +49,5 @@ roots-of-spec =
     (λ c κs. let e = ap (λ (q : Row). q .source) (read c) in let h = s c .pre .2 .source _ (c .before .loop-test .taken) in (s c .pre .0, omega arith))
     (λ c. search needs) (λ c. search needs)
     (λ c κs. let r = c .before in let e = ap (λ (q : Row). q .destination) (read r) in let h = s r .pre .2 .destination _ (r .before .loop-test .taken) in (s r .pre .0, omega arith))
-    (λ c. search needs) (λ c. search needs) (λ c. search needs) (λ c. search needs) (λ c. search needs) again returns)
+    (λ c. search needs) (λ c. search needs) (λ c. search needs) (λ c. search needs) (λ c. search needs) again
+    (λ c. let l = c .before .loop in rw (le-antisymm (l .inv .0) (c .loop-test .left)) at (l .inv .1)))

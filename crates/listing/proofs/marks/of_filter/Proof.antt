@@ -2,6 +2,7 @@
 use borrow.Author.Needs.{needs}
 use Prim.Native.Nat.{_+_, _-_, _*_, _≤_, _<_}
 use mathlib.Core.Path.{_≡_, refl, ap, _∙_}
+use native.Mathlib.Nat.{le-antisymm}
 use native.Mathlib.Omega.{arith}
 use denote.Ref.{now}
 use lib.Count.{ones}
@@ -46,14 +47,6 @@ again c =
     let h = p .before .before .loop-test .taken in
     (omega arith, rw (found p) (filter-next (now (a .roots)) (now (a .actions)) (now (a .bounds)) (l p .loop .inv .1) refl))
 
-returns : tie.Need-returns I μ
-returns c =
-    let i = c .before .loop in
-    let h = c .loop-test .left in
-    let m = i .inv .0 in
-    let e : i .m ≡ c .before .before .before .args .filters = omega arith in
-    rw e at (i .inv .1)
-
 -- there are so few that they can be counted
 few : (c : tie.After-of-filter-pair I μ) → l c .loop .n + ones (c .of-filter-pair .result) ≤ 1000
 few c =
@@ -82,4 +75,5 @@ of-filter-spec =
     (λ c. let h = within (c .before .before .before) in omega arith)
     (λ c. let h = within (c .before .before .before) in omega arith)
     (λ c. let h = c .before .before .before .loop-test .taken in omega arith)
-    again returns)
+    again
+    (λ c. let i = c .before .loop in rw (le-antisymm (i .inv .0) (c .loop-test .left)) at (i .inv .1)))

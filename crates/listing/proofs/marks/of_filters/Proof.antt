@@ -1,6 +1,6 @@
 -- `of_filters` meets its contract: the kinds of the filters before k are added, and counted. Assumes nothing.
 use Prim.Native.Nat.{_+_, _-_, _≤_, _<_}
-use mathlib.Core.Path.{_≡_}
+use native.Mathlib.Nat.{le-antisymm}
 use native.Mathlib.Omega.{arith}
 use denote.Ref.{now}
 use Rattle.listing.specs.Marks.{MarkedFilters}
@@ -38,14 +38,6 @@ module _ (c : tie.After-of-filter I μ) where
       let a = s .args in
       filters-next (now (a .roots)) (now (a .actions)) (now (a .bounds)) (l .loop .inv .1) (c .of-filter .ensures) here (omega (arith, s .pre .0)) (s .pre .1)
 
-returns : tie.Need-returns I μ
-returns c =
-    let i = c .before .loop in
-    let h = c .loop-test .left in
-    let m = i .inv .0 in
-    let e : i .k ≡ c .before .before .args .filters = omega arith in
-    rw e at (i .inv .1)
-
 pub of-filters-spec : {M : Type 1} → statement M
 of-filters-spec =
     tie.close
@@ -56,4 +48,4 @@ of-filters-spec =
     (λ c. let h = here c in let n = s c .pre .0 in omega arith)
     (λ c. let h = here c in omega arith)
     (λ c. let h = here c in (omega arith, next c))
-    returns)
+    (λ c. let i = c .before .loop in rw (le-antisymm (i .inv .0) (c .loop-test .left)) at (i .inv .1)))

@@ -3,6 +3,7 @@ use borrow.Author.Needs.{needs}
 use Prim.Native.Nat.{_+_, _-_, _*_, _≤_, _<_}
 use mathlib.Core.Path.{_≡_, refl, sym, ap, subst, _∙_}
 use mathlib.Core.List.{[], _∷_}
+use native.Mathlib.Nat.{le-antisymm}
 use native.Mathlib.Omega.{arith}
 use denote.Ref.{now}
 use lib.ListN.{set}
@@ -63,14 +64,6 @@ again c =
       },
     )
 
-returns : tie.Need-returns I μ
-returns c =
-    let l = c .before .loop in
-    let h = c .loop-test .left in
-    let m = l .inv .0 in
-    let e : l .j ≡ c .before .before .before .args .rows = omega arith in
-    rw e at (l .inv .1)
-
 pub of-pairs-spec : {M : Type 1} → statement M
 of-pairs-spec =
     tie.close
@@ -83,4 +76,5 @@ of-pairs-spec =
     (λ c. let h = within (c .before .before) in omega arith)
     (λ c. let h = within (c .before .before) in omega arith)
     (λ c. let h = within (c .before .before) in omega arith)
-    (λ c. search needs) (λ c. search needs) again returns)
+    (λ c. search needs) (λ c. search needs) again
+    (λ c. let l = c .before .loop in rw (le-antisymm (l .inv .0) (c .loop-test .left)) at (l .inv .1)))

@@ -3,6 +3,7 @@ use borrow.Author.Needs.{needs}
 use mathlib.Core.Path.{_≡_, refl, ap, _∙_}
 use mathlib.Core.List.{map}
 use native.Mathlib.Omega.{arith}
+use Prim.Native.Nat.{ℕ}
 use denote.Ref.{now}
 use lib.ListN.{getD}
 use Rattle.policy.specs.Views.{coefficientsOf, filterIn}
@@ -13,9 +14,16 @@ use Rattle.listing.proofs.marks.of_row.Statement.{statement}
 use Rattle.listing.proofs.marks.of_row.Tie as tie
 
 -- the row that was read
-read : (c : tie.After-placed-at)
-    → placedOf (c .placed-at .result) ≡ placedIn (now (c .before .args .heads)) (now (c .before .args .bounds)) (now (c .before .args .roots)) (c .before .args .i)
-read c = c .placed-at .ensures
+module _ (c : tie.After-placed-at) where
+  abbrev s : tie.Start
+  s = c .before .before
+
+  read : placedOf (c .placed-at .result) ≡ placedIn (now (s .args .heads)) (now (s .args .bounds)) (now (s .args .roots)) (s .args .a .i)
+  read = c .placed-at .ensures
+
+-- what was asked, from the third kind on
+abbrev asked : tie.After-non-enforceable → tie.Start
+asked c = s (c .before .before .before .before .before .before .before .before)
 
 returns : tie.Need-returns
 returns c =
@@ -31,45 +39,48 @@ returns c =
     let out = non .before .before .before .before .before in
     let loop = out .before in
     let p = loop .before .before in
-    let s = p .before .args in
+    let q = s p .args in
     let e = read p in
-    let verdict : dead .is-dead .result ≡ isNone (verdictIn (now (s .parents)) (now (s .heads)) (now (s .bounds)) (s .i)) = dead .is-dead .ensures in
-    record {
-      marks =
-          rw (
-            loop .internal-loop .ensures ∙ ap internalLoop e,
-            out .out-of-place .ensures ∙ ap outOfPlace e,
-            non .non-enforceable .ensures
-                ∙ ap (λ (q : Placed). nonEnforceable (getD (now (s .masks)) (q .from) 0) (getD (now (s .masks)) (q .to) 0) (map coefficientsOf (s .caps)) (q .row)) e,
-            inad .inadequate .ensures ∙ ap (λ (q : Placed). inadequate (coefficientsOf (s .floor)) (q .row)) e,
-            super .superfluous .ensures,
-            filter .filtered .ensures ∙ ap (λ (q : Placed). filtered (filterIn (now (s .filter-roots)) (now (s .filter-actions)) (now (s .bounds))) (s .filters) (q .row)) e,
-            two .layer-two .ensures ∙ ap (λ (q : Placed). layerTwo (q .row)) e,
-            asym .asymmetric .ensures,
-            cycle .cyclic .ensures ∙ ap cyclic e,
-            path .alternative-path .ensures,
-            verdict,
-          ) at (c .bits-of .ensures);
-    }
+    let mask : ℕ → ℕ = λ x. getD (now (q .masks)) x 0 in
+    let verdict : dead .is-dead .result ≡ isNone (verdictIn (now (q .parents)) (now (q .heads)) (now (q .bounds)) (q .a .i)) = dead .is-dead .ensures in
+    rw (
+      loop .internal-loop .ensures ∙ ap internalLoop e,
+      out .out-of-place .ensures ∙ ap outOfPlace e,
+      non .non-enforceable .ensures
+          ∙ ap (λ (x : Placed). nonEnforceable (mask (x .from)) (mask (x .to)) (map coefficientsOf (q .a .caps)) (x .row)) e,
+      inad .inadequate .ensures ∙ ap (λ (x : Placed). inadequate (coefficientsOf (q .a .floor)) (x .row)) e,
+      super .superfluous .ensures,
+      filter .filtered .ensures
+          ∙ ap (λ (x : Placed). filtered (filterIn (now (q .filter-roots)) (now (q .filter-actions)) (now (q .bounds))) (q .a .filters) (x .row)) e,
+      two .layer-two .ensures ∙ ap (λ (x : Placed). layerTwo (x .row)) e,
+      asym .asymmetric .ensures,
+      cycle .cyclic .ensures ∙ ap cyclic e,
+      path .alternative-path .ensures,
+      verdict,
+    ) at (c .bits-of .ensures)
 
 pub of-row-spec : {M : Type 1} → statement M
 of-row-spec =
     tie.close
     (tie.spec
-    (λ c κs. c .pre .place)
+    (λ c κs. c .before .pre .place)
     (λ c κs. search needs) (λ c. search needs) (λ c κs. search needs) (λ c. search needs) (λ c. search needs)
-    (λ c. let p = c .before .before .before .before in let e = ap (λ (q : Placed). q .from) (read p) in let h = p .before .pre .from in omega arith)
+    (λ c. let p = c .before .before .before .before in let e = ap (λ (q : Placed). q .from) (read p) in let h = s p .pre .from in omega arith)
     (λ c. search needs)
-    (λ c. let p = c .before .before .before .before .before .before in let e = ap (λ (q : Placed). q .to) (read p) in let h = p .before .pre .to in omega arith)
-    (λ c κs. let p = c .before .before .before .before .before .before .before in let e = ap (λ (q : Placed). q .row .technology) (read p) in let h = p .before .pre .row .technology in omega arith)
+    (λ c. let p = c .before .before .before .before .before .before in let e = ap (λ (q : Placed). q .to) (read p) in let h = s p .pre .to in omega arith)
+    (λ c κs. let p = c .before .before .before .before .before .before .before in
+    let e = ap (λ (q : Placed). q .row .technology) (read p) in
+    let h = s p .pre .row .technology in
+    omega arith)
     (λ c. search needs) (λ c κs. search needs) (λ c. search needs)
-    (λ c κs. let s = c .before .before .before .before .before .before .before .before .before .before in (s .pre .few, s .pre .place))
+    (λ c κs. let a = asked (c .before) in (a .pre .few, a .pre .place))
     (λ c. search needs)
-    (λ c κs. let s = c .before .before .before .before .before .before .before .before .before .before .before in s .pre .few-filters)
+    (λ c κs. asked (c .before .before) .pre .few-filters)
     (λ c. search needs) (λ c κs. search needs) (λ c. search needs)
-    (λ c κs. let s = c .before .before .before .before .before .before .before .before .before .before .before .before .before in (s .pre .few, s .pre .place))
+    (λ c κs. let a = asked (c .before .before .before .before) in (a .pre .few, a .pre .place))
     (λ c. search needs) (λ c κs. search needs) (λ c. search needs)
-    (λ c κs. let s = c .before .before .before .before .before .before .before .before .before .before .before .before .before .before .before in (s .pre .few, s .pre .place))
+    (λ c κs. let a = asked (c .before .before .before .before .before .before) in (a .pre .few, a .pre .place))
     (λ c. search needs)
-    (λ c κs. let s = c .before .before .before .before .before .before .before .before .before .before .before .before .before .before .before .before in record { row = s .pre .place; ends = record { parents = s .pre .tree; source = s .pre .row .source; destination = s .pre .row .destination } })
+    (λ c κs. let a = asked (c .before .before .before .before .before .before .before) in
+    record { row = a .pre .place; ends = record { parents = a .pre .tree; source = a .pre .row .source; destination = a .pre .row .destination } })
     (λ c. search needs) (λ c κs. refl) returns)

@@ -1,8 +1,9 @@
 -- `before` meets its contract: the cells are the same in the fields so far. Assumes nothing.
 use borrow.Author.Needs.{needs}
+use native.Mathlib.Nat.{le-antisymm}
 use native.Mathlib.Omega.{arith}
 use Prim.Native.Nat.{_-_, _≤_}
-use mathlib.Core.Path.{_≡_, subst}
+use mathlib.Core.Path.{_≡_}
 use Rattle.base.proofs.Laws.Firsts.{below-more}
 use Rattle.policy.specs.Limits.{fieldCount}
 use Rattle.mesh.specs.Blocks.{at}
@@ -25,8 +26,7 @@ again c =
 nowhere : tie.Need-returns-2 I μ
 nowhere c =
     let l = c .before in
-    let e : l .loop .f ≡ fieldCount = omega (arith, l .loop .inv .0, c .loop-test .left) in
-    earlier-nowhere (l .before .args .t1) (l .before .args .t2) (subst (SameBefore (l .before .args .t1) (l .before .args .t2)) e (l .loop .inv .1))
+    earlier-nowhere (l .before .args .t1) (l .before .args .t2) (rw (le-antisymm (l .loop .inv .0) (c .loop-test .left)) at (l .loop .inv .1))
 
 pub before-spec : {M : Type 1} → statement M
 before-spec =

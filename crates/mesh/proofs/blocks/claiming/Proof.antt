@@ -1,8 +1,8 @@
 -- `claiming` meets its contract: the boxes that have the cell's intervals in the fields so far. Assumes nothing.
 use borrow.Author.Needs.{needs}
+use native.Mathlib.Nat.{le-antisymm}
 use native.Mathlib.Omega.{arith}
-use Prim.Native.Nat.{ℕ, _-_, _≤_}
-use mathlib.Core.Path.{_≡_, subst}
+use Prim.Native.Nat.{_-_, _≤_}
 use denote.Ref.{now}
 use Rattle.policy.specs.Limits.{fieldCount}
 use Rattle.mesh.proofs.Laws.Loops.{ClaimingBefore, claiming-one, claiming-more}
@@ -21,13 +21,6 @@ again c =
     let s = l .before .before in
     (omega (arith, c .before .loop-test .taken), claiming-more (now (s .args .sets)) (s .args .t2) (l .loop .f) (l .loop .set) _ (l .loop .inv .1) (c .set-at2 .ensures))
 
-returns : tie.Need-returns I μ
-returns c =
-    let l = c .before in
-    let s = l .before .before in
-    let e : l .loop .f ≡ fieldCount = omega (arith, l .loop .inv .0, c .loop-test .left) in
-    subst (λ (n : ℕ). ClaimingBefore (now (s .args .sets)) (s .args .t2) n (l .loop .set)) e (l .loop .inv .1)
-
 pub claiming-spec : {M : Type 1} → statement M
 claiming-spec =
     tie.close
@@ -35,4 +28,5 @@ claiming-spec =
     (λ c. (omega arith, claiming-one (now (c .before .args .sets)) (c .before .args .t2) _ (c .set-at .ensures)))
     (λ c. search needs) (λ c. search needs)
     (λ c κs. let l = c .before in (c .loop-test .taken, l .before .before .pre (l .loop .f) (c .loop-test .taken)))
-    (λ c. search needs) (λ c. search needs) again returns)
+    (λ c. search needs) (λ c. search needs) again
+    (λ c. let l = c .before .loop in rw (le-antisymm (l .inv .0) (c .loop-test .left)) at (l .inv .1)))

@@ -1,8 +1,9 @@
 -- `end` meets its contract: the boxes have the intervals so far. Assumes nothing.
 use borrow.Author.Needs.{needs}
+use native.Mathlib.Nat.{le-antisymm}
 use native.Mathlib.Omega.{arith}
 use Prim.Native.Nat.{_-_}
-use mathlib.Core.Path.{_≡_, sym, ap, subst, _∙_}
+use mathlib.Core.Path.{_≡_, sym, ap, _∙_}
 use denote.Ref.{now}
 use lib.Bits.{bitAnd}
 use Rattle.mesh.specs.Views.{setAt}
@@ -35,8 +36,7 @@ whole : tie.Need-returns-2 I μ
 whole c =
     let l = c .before in
     let a = l .before .args in
-    let e : l .loop .i ≡ a .hi = omega (arith, l .loop .inv .most, c .loop-test .left) in
-    have-end _ _ _ _ _ _ (subst (HaveBefore (now (a .sets)) (a .f) (a .lo) (a .hi) (a .boxes)) e (l .loop .inv)) (λ h. absurd (omega arith))
+    have-end _ _ _ _ _ _ (rw (le-antisymm (l .loop .inv .most) (c .loop-test .left)) at (l .loop .inv)) (λ h. absurd (omega arith))
 
 pub end-spec : {M : Type 1} → statement M
 end-spec =

@@ -1,8 +1,8 @@
 -- `has_cell` meets its contract: there is an interval in the fields so far. Assumes nothing.
 use borrow.Author.Needs.{needs}
+use native.Mathlib.Nat.{le-antisymm}
 use native.Mathlib.Omega.{arith}
 use Prim.Native.Nat.{_-_, _≤_, _<_}
-use mathlib.Core.Path.{_≡_, subst}
 use Rattle.base.proofs.Laws.Decides.{decides-true, decides-false}
 use Rattle.base.proofs.Laws.Firsts.{below-more}
 use Rattle.policy.specs.Limits.{fieldCount}
@@ -28,13 +28,8 @@ again c =
     let a = l .before .args in
     (omega (arith, c .before .loop-test .taken), below-more (λ f. at (a .t1) f < at (a .t2) f) (l .loop .f) (l .loop .inv .1) (let e = c .if1 .left in omega arith))
 
-all : tie.Need-returns-2 I μ
-all c =
-    let l = c .before in
-    let e : l .loop .f ≡ fieldCount = omega (arith, l .loop .inv .0, c .loop-test .left) in
-    decides-true (subst (CellBefore (l .before .args .t1) (l .before .args .t2)) e (l .loop .inv .1))
-
 pub has-cell-spec : {M : Type 1} → statement M
 has-cell-spec =
     tie.close
-    (tie.spec I μ (λ c. (omega arith, λ f h. absurd (omega arith))) (λ c. search needs) (λ c. search needs) none (λ c. search needs) (λ c. search needs) again all)
+    (tie.spec I μ (λ c. (omega arith, λ f h. absurd (omega arith))) (λ c. search needs) (λ c. search needs) none (λ c. search needs) (λ c. search needs) again
+    (λ c. let l = c .before .loop in decides-true (rw (le-antisymm (l .inv .0) (c .loop-test .left)) at (l .inv .1))))

@@ -1,8 +1,9 @@
 -- `middle` meets its contract: the cell is in the middle in the fields so far. Assumes nothing.
 use borrow.Author.Needs.{needs}
+use native.Mathlib.Nat.{le-antisymm}
 use native.Mathlib.Omega.{arith}
 use Prim.Native.Nat.{ℕ, _+_, _-_, _/_, _≤_}
-use mathlib.Core.Path.{_≡_, subst, _∙_}
+use mathlib.Core.Path.{_≡_, _∙_}
 use mir.Syntax.{w8}
 use mir.Val.{Fits}
 use lib.ListN.{length, length-set}
@@ -28,13 +29,6 @@ again c =
       middle-more (a .t1) (a .t2) (l .loop .c) (l .loop .f) (omega (arith, l .loop .inv .1)) (l .loop .inv .2),
     )
 
-returns : tie.Need-returns I μ
-returns c =
-    let l = c .before in
-    let a = l .before .args in
-    let e : l .loop .f ≡ fieldCount = omega (arith, l .loop .inv .0, c .loop-test .left) in
-    subst (MiddleBefore (a .t1) (a .t2) (l .loop .c)) e (l .loop .inv .2)
-
 -- the number in the middle is a byte, as the larger one is
 module _ (c : tie.In-loop I μ) where
   abbrev s : tie.Start I μ
@@ -56,4 +50,5 @@ pub middle-spec : {M : Type 1} → statement M
 middle-spec =
     tie.close
     (tie.spec I μ (λ c. (omega arith, search needs, λ f h. absurd (omega arith))) (λ c. search needs) (λ c. search needs) (λ c. search needs)
-    ordered sum (λ c. search needs) (λ c. search needs) (λ c. search needs) again returns)
+    ordered sum (λ c. search needs) (λ c. search needs) (λ c. search needs) again
+    (λ c. let l = c .before .loop in rw (le-antisymm (l .inv .0) (c .loop-test .left)) at (l .inv .2)))

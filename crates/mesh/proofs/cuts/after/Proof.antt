@@ -1,5 +1,6 @@
 -- `after` meets its contract: the next cut by the first k boxes, one box more at a time. Assumes nothing.
 use borrow.Author.Needs.{needs}
+use native.Mathlib.Nat.{le-antisymm}
 use native.Mathlib.Omega.{arith}
 use Prim.Native.Nat.{ℕ, _+_, _-_, _≤_, _<_}
 use mathlib.Core.Path.{_≡_, sym, ap, subst, _∙_}
@@ -47,11 +48,10 @@ returns : tie.Need-returns I μ
 returns c =
     let l = c .before in
     let a = l .before .args in
-    let e : l .loop .k ≡ a .count = omega (arith, l .loop .inv .0, c .loop-test .left) in
     let r : Range = rangeOf (a .r) in
     let field : ℕ → Range = fieldOf (now (a .bounds)) (now (a .at)) (a .f) in
     nearest-cut r field (value (a .v)) (l .before .pre .2) (a .count) (nextOf (l .loop .next))
-    (subst (λ (k : ℕ). Nearest (CutBy r field (value (a .v)) k) (value (a .v)) (nextOf (l .loop .next))) e (l .loop .inv .1))
+    (rw (le-antisymm (l .loop .inv .0) (c .loop-test .left)) at (l .loop .inv .1))
 
 pub after-spec : {M : Type 1} → statement M
 after-spec =

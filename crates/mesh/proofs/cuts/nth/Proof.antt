@@ -1,10 +1,11 @@
 -- `nth` meets its contract: after j steps the number is cut j. Assumes nothing.
 use borrow.Author.Needs.{needs}
+use native.Mathlib.Nat.{le-antisymm}
 use native.Mathlib.Omega.{arith}
 use Prim.Native.Nat.{ℕ, _+_, _-_, _≤_, _<_}
 use mathlib.Core.Path.{_≡_, sym, ap, subst, _∙_}
 use denote.Ref.{now}
-use lib.ListN.{length, getD}
+use lib.ListN.{length}
 use Rattle.policy.specs.Model.{Range}
 use Rattle.policy.specs.Views.{value, rangeOf, rangeIn}
 use Rattle.relations.specs.Ranges.{Within}
@@ -58,10 +59,8 @@ again c =
 
 returns : tie.Need-returns I μ
 returns c =
-    let l = c .before in
-    let a = s l .args in
-    let e : l .loop .j ≡ a .i = omega (arith, l .loop .inv .0, c .loop-test .left) in
-    sym (subst (λ (j : ℕ). getD (cutsOf (now (a .bounds)) (now (a .at)) (a .count) (a .row) (a .f)) j 0 ≡ value (l .loop .v)) e (l .loop .inv .1 .1))
+    let l = c .before .loop in
+    sym (rw (le-antisymm (l .inv .0) (c .loop-test .left)) at (l .inv .1 .1))
 
 pub nth-spec : {M : Type 1} → statement M
 nth-spec =

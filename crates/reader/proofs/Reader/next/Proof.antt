@@ -4,6 +4,7 @@ use borrow.Author.Needs.{needs}
 use borrow.Author.Tests.{ne-eqb, not-true, not-false}
 use native.Mathlib.Omega.{arith}
 use mathlib.Core.Path.{_≡_, refl, sym, ap, _∙_}
+use mathlib.Core.Logic.{inl, inr}
 use mathlib.Core.Bool.{true}
 use mathlib.Core.List.{List}
 use Prim.Native.Nat.{ℕ, _-_, _≤_}
@@ -17,7 +18,7 @@ use Rattle.frames.specs.Kinds.{FrameName, ofEntity, ofCap, ofFloor, ofFilter, o
 use Rattle.reader.specs.Frames.{frameOfKind}
 use Rattle.reader.specs.States.{takeFrame, step}
 use Rattle.reader.specs.Views.{progressOf, stateOf, stateWith}
-use Rattle.reader.proofs.Laws.States.{no-frame, kind-own, kind-other}
+use Rattle.reader.proofs.Laws.States.{no-frame, kind-own, kind-cases}
 use Rattle.reader.proofs.Laws.Readers.{moved}
 use Rattle.reader.proofs.Laws.Takings.{step-no-line, step-line}
 use Rattle.reader.proofs.Reader.next.Statement.{statement}
@@ -78,12 +79,18 @@ no-kind : tie.Need-returns-8
 no-kind c =
     let u = c .before .before in
     let r = entry u .args .self in
-    let n = c .before .match .rest in
-    let other = kind-other (u .u8-at .result) (bytesOf (rest u)) (n .0 .0 .0 .0 .1) (n .0 .0 .0 .1) (n .0 .0 .1) (n .0 .1) (n .1) in
     moved (c .refuse2 .ensures)
     (sym (no-frame (linesRead (progressOf r)) (progressOf r))
-    ∙ ap (takeFrame (linesRead (progressOf r)) (progressOf r)) (sym other)
+    ∙ ap (takeFrame (linesRead (progressOf r)) (progressOf r))
+    (elim (kind-cases (u .u8-at .result)) [ inl h ↦ absurd (other (h .0) (h .1)) | inr none ↦ sym (none (bytesOf (rest u))) ])
     ∙ chosen u (u .u8-at .result) refl)
+  where
+    other : (k : FrameName) → c .before .before .u8-at .result ≡ describe k .byte → ⊥
+    other ofEntity e = c .before .match .rest .0 .0 .0 .0 .1 e
+    other ofCap e = c .before .match .rest .0 .0 .0 .1 e
+    other ofFloor e = c .before .match .rest .0 .0 .1 e
+    other ofFilter e = c .before .match .rest .0 .1 e
+    other ofRow e = c .before .match .rest .1 e
 
 pub next-spec : {M : Type 1} → statement M
 next-spec =

@@ -1,17 +1,19 @@
 -- `Reader::take_filter` meets its contract: each way is what a filter's line comes to. Assumes nothing.
 use borrow.Author.Needs.{needs}
 use denote.Ref.{now}
-use mathlib.Core.Path.{refl}
+use mathlib.Core.Path.{refl, ap, _∙_}
 use mathlib.Core.List.{List}
 use native.Mathlib.Omega.{arith}
 use Prim.Native.Nat.{ℕ}
 use Rattle.base.specs.Checks.{refusal}
 use Rattle.hex.specs.Lines.{bytesOf}
+use Rattle.policy.specs.Views.{tableOf}
 use Rattle.policy.proofs.Laws.Tables.{Counted, parents-taken}
 use Rattle.frames.specs.Filters.{filterFrom, filterContent}
 use Rattle.frames.specs.Kinds.{ofFilter}
 use Rattle.hex.proofs.Laws.Lines.{length-bytesOf}
-use Rattle.frames.proofs.Laws.Filters.{few-filters, filter-has-box}
+use Rattle.frames.proofs.Laws.Kinds.{lawful}
+use Rattle.frames.proofs.Laws.Filters.{few-filters, filter-kept, filter-has-box}
 use Rattle.reader.specs.Views.{progressOf}
 use Rattle.reader.specs.declared.Reader.{Reader}
 use Rattle.reader.proofs.Laws.Readers.{table-counted, parents-lent}
@@ -64,11 +66,14 @@ broken c =
 
 room : tie.Need-with-filter-requires
 room c κs =
-    let i = c .before .before .before .before .before .before in
+    let b = c .before .before in
+    let i = b .before .before .before .before in
     let s = i .before .before .before .before .before in
     let few = few-filters (progressOf (r s)) (filterFrom (bs s)) (has-room (fit (i .before)) (i .if1 .left)) in
     let n = counts s in
-    (s .pre .held, omega arith)
+    let form = has-form (fit (i .before)) (i .if1 .left) in
+    let kept = filter-kept (tableOf (r s .table)) (filterFrom (bs s)) (lawful ofFilter .in-range (now (s .args .part)) form) (content b .same ∙ c .before .if2 .left) in
+    (s .pre .held, omega arith, rw (ap (λ v. v .selector) (b .before .before .before .read .ensures)) (kept .selector))
 
 value : tie.Need-returns-3
 value c =

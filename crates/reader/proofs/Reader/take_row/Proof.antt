@@ -1,17 +1,19 @@
 -- `Reader::take_row` meets its contract: each way is what a row's line comes to. Assumes nothing.
 use borrow.Author.Needs.{needs}
 use denote.Ref.{now}
-use mathlib.Core.Path.{refl}
+use mathlib.Core.Path.{refl, ap, _∙_}
 use mathlib.Core.List.{List}
 use native.Mathlib.Omega.{arith}
 use Prim.Native.Nat.{ℕ}
 use Rattle.base.specs.Checks.{refusal}
 use Rattle.hex.specs.Lines.{bytesOf}
-use Rattle.policy.specs.Wellformed.{widths}
+use Rattle.policy.specs.Views.{tableOf}
 use Rattle.policy.proofs.Laws.Tables.{Counted, parents-taken}
+use Rattle.frames.specs.Parts.{boxWidths}
 use Rattle.frames.specs.Rows.{rowFrame, rowContent}
 use Rattle.frames.specs.Kinds.{ofRow}
-use Rattle.frames.proofs.Laws.Rows.{few-rows}
+use Rattle.frames.proofs.Laws.Kinds.{lawful}
+use Rattle.frames.proofs.Laws.Rows.{few-rows, row-kept}
 use Rattle.reader.specs.Views.{progressOf}
 use Rattle.reader.specs.declared.Reader.{Reader}
 use Rattle.reader.proofs.Laws.Readers.{table-counted, parents-lent}
@@ -57,11 +59,14 @@ broken c =
 
 room : tie.Need-with-row-requires
 room c κs =
-    let i = c .before .before .before .before .before .before in
+    let b = c .before .before in
+    let i = b .before .before .before .before in
     let s = i .before .before .before .before .before in
-    let few = few-rows 5 (progressOf (r s)) (rowFrame widths (bs s)) (has-room (fit (i .before)) (i .if1 .left)) in
+    let few = few-rows (progressOf (r s)) (has-room (fit (i .before)) (i .if1 .left)) in
     let n = counts s in
-    (s .pre .held, omega arith)
+    let form = has-form (fit (i .before)) (i .if1 .left) in
+    let kept = row-kept (tableOf (r s .table)) (rowFrame boxWidths (bs s)) (lawful ofRow .in-range (now (s .args .part)) form) (content b .same ∙ c .before .if2 .left) in
+    (s .pre .held, omega arith, rw (ap (λ v. v .selector) (b .before .before .before .read .ensures)) (kept .selector))
 
 value : tie.Need-returns-3
 value c =

@@ -14,11 +14,11 @@ use Rattle.policy.specs.declared.selector.Range.{Range as RangeStruct}
 use Rattle.covers.specs.Least.{SearchResult, Right}
 use Rattle.search.specs.Search.{search as searched}
 use Rattle.covers.specs.Views.{boxesAt, nextOf}
-use Rattle.covers.specs.Sets.{In, Numbered}
-use Rattle.search.specs.Covers.{boxIn}
+use Rattle.covers.specs.Sets.{In, Numbered, fieldOf}
+use Rattle.search.specs.Covers.{boxIn, Holding}
 use Rattle.search.specs.Turns.{turned}
 use Rattle.search.proofs.Laws.Walks.{Walked, walked-start, left, risen}
-use Rattle.search.proofs.Laws.Levels.{Keeps, keeps-none, keeps-more, Fails, fails-last, Stands, level-start, level-end, level-fails, level-falls, level-next, first-next, level-found, last-found, all-numbered, found-right, none-right, boxesOf, boxes-sized}
+use Rattle.search.proofs.Laws.Levels.{Keeps, keeps-none, keeps-more, Fails, fails-last, Stands, level-start, level-end, level-fails, level-falls, level-next, first-next, level-found, left-last, last-found, all-numbered, found-right, none-right, boxesOf, boxes-sized}
 use Rattle.search.proofs.Laws.Agrees.{search-agrees}
 use Rattle.search.proofs.Laws.Turns.{fieldsFrom, fields-turned, boxes-turned}
 use Rattle.search.proofs.walk.walk.Statement.{statement}
@@ -123,7 +123,7 @@ abbrev Held3 : Type 0
 Held3 = tie.After-holding4 I4 m4 I3 m3 I2 m2 I1 m1 I0 m0
 
 abbrev Held4 : Type 0
-Held4 = tie.After-holding5 I4 m4 I3 m3 I2 m2 I1 m1 I0 m0
+Held4 = tie.After-furthest I4 m4 I3 m3 I2 m2 I1 m1 I0 m0
 
 abbrev End1 : Type 0
 End1 = tie.After-enum-told2 I4 m4 I3 m3 I2 m2 I1 m1 I0 m0
@@ -300,9 +300,6 @@ a3 h = h .holding3 .result
 abbrev a4 : Held3 → ℕ
 a4 h = h .holding4 .result
 
-abbrev a5 : Held4 → ℕ
-a5 h = h .holding5 .result
-
 numbered0 : (p : At0) → Numbered (A (ranges0 p)) (a0 p)
 numbered0 p = let s = start (ranges0 p) in all-numbered (B (ranges0 p)) (fieldsFrom (F0 (ranges0 p))) (s .args .cover) (s .pre .1) (a0 p) (p .before .before .first .ensures)
 
@@ -318,45 +315,62 @@ numbered3 h k i = numbered2 (up2 (at2 h)) k (h .holding3 .ensures .part k i)
 numbered4 : (h : Held3) → Numbered (A (ranges3 (at3 h))) (a4 h)
 numbered4 h k i = numbered3 (up3 (at3 h)) k (h .holding4 .ensures .part k i)
 
-numbered5 : (h : Held4) → Numbered (A (ranges4 (at4 h))) (a5 h)
-numbered5 h k i = numbered4 (up4 (at4 h)) k (h .holding5 .ensures .part k i)
-
 stands0 : (h : Held0)
-    → Stands (B (ranges0 (at0 h))) (A (ranges0 (at0 h))) (F0 (ranges0 (at0 h))) (Fs1 (ranges0 (at0 h))) (R0 (ranges0 (at0 h))) (S1 (ranges0 (at0 h))) (In (a0 (at0 h))) (In (a0 (at0 h))) (at0 h .search .n0) (h .before .before .before .n0 .given .0 .0) (a1 h)
+    → Stands (B (ranges0 (at0 h))) (A (ranges0 (at0 h))) (F0 (ranges0 (at0 h))) (Fs1 (ranges0 (at0 h))) (R0 (ranges0 (at0 h))) (S1 (ranges0 (at0 h)))
+    (In (a0 (at0 h))) (In (a0 (at0 h))) (at0 h .search .n0) (h .before .before .before .n0 .given .0 .0) (In (a1 h))
 stands0 h = record { walked = at0 h .search .inv .0; value-is = h .before .before .before .n0 .given .1; narrowed = h .holding .ensures }
 
 stands1 : (h : Held1)
-    → Stands (B (ranges1 (at1 h))) (A (ranges1 (at1 h))) (F1 (ranges1 (at1 h))) (Fs2 (ranges1 (at1 h))) (R1 (ranges1 (at1 h))) (S2 (ranges1 (at1 h))) (In (a1 (up1 (at1 h)))) (In (at1 h .loop .k1)) (at1 h .loop .n1) (h .before .before .before .n1 .given .0 .0) (a2 h)
+    → Stands (B (ranges1 (at1 h))) (A (ranges1 (at1 h))) (F1 (ranges1 (at1 h))) (Fs2 (ranges1 (at1 h))) (R1 (ranges1 (at1 h))) (S2 (ranges1 (at1 h)))
+    (In (a1 (up1 (at1 h)))) (In (at1 h .loop .k1)) (at1 h .loop .n1) (h .before .before .before .n1 .given .0 .0) (In (a2 h))
 stands1 h = record { walked = at1 h .loop .inv .0; value-is = h .before .before .before .n1 .given .1; narrowed = h .holding2 .ensures }
 
 stands2 : (h : Held2)
-    → Stands (B (ranges2 (at2 h))) (A (ranges2 (at2 h))) (F2 (ranges2 (at2 h))) (Fs3 (ranges2 (at2 h))) (R2 (ranges2 (at2 h))) (S3 (ranges2 (at2 h))) (In (a2 (up2 (at2 h)))) (In (at2 h .loop2 .k2)) (at2 h .loop2 .n2) (h .before .before .before .n2 .given .0 .0) (a3 h)
+    → Stands (B (ranges2 (at2 h))) (A (ranges2 (at2 h))) (F2 (ranges2 (at2 h))) (Fs3 (ranges2 (at2 h))) (R2 (ranges2 (at2 h))) (S3 (ranges2 (at2 h)))
+    (In (a2 (up2 (at2 h)))) (In (at2 h .loop2 .k2)) (at2 h .loop2 .n2) (h .before .before .before .n2 .given .0 .0) (In (a3 h))
 stands2 h = record { walked = at2 h .loop2 .inv .0; value-is = h .before .before .before .n2 .given .1; narrowed = h .holding3 .ensures }
 
 stands3 : (h : Held3)
-    → Stands (B (ranges3 (at3 h))) (A (ranges3 (at3 h))) (F3 (ranges3 (at3 h))) (Fs4 (ranges3 (at3 h))) (R3 (ranges3 (at3 h))) (S4 (ranges3 (at3 h))) (In (a3 (up3 (at3 h)))) (In (at3 h .loop3 .k3)) (at3 h .loop3 .n3) (h .before .before .before .before .before .n3 .given .0 .0) (a4 h)
+    → Stands (B (ranges3 (at3 h))) (A (ranges3 (at3 h))) (F3 (ranges3 (at3 h))) (Fs4 (ranges3 (at3 h))) (R3 (ranges3 (at3 h))) (S4 (ranges3 (at3 h)))
+    (In (a3 (up3 (at3 h)))) (In (at3 h .loop3 .k3)) (at3 h .loop3 .n3) (h .before .before .before .before .before .n3 .given .0 .0) (In (a4 h))
 stands3 h = record { walked = at3 h .loop3 .inv .0; value-is = h .before .before .before .before .before .n3 .given .1; narrowed = h .holding4 .ensures }
 
+-- the boxes that are left past the last field
+abbrev left4 : Held4 → ℕ → Type 0
+left4 h =
+    Holding (fieldOf (B (ranges4 (at4 h))) (A (ranges4 (at4 h))) (F4 (ranges4 (at4 h))))
+    (a4 (up4 (at4 h))) (value (h .before .before .before .n4 .given .0 .0))
+
 stands4 : (h : Held4)
-    → Stands (B (ranges4 (at4 h))) (A (ranges4 (at4 h))) (F4 (ranges4 (at4 h))) [] (R4 (ranges4 (at4 h))) [] (In (a4 (up4 (at4 h)))) (In (at4 h .loop4 .k4)) (at4 h .loop4 .n4) (h .before .before .before .n4 .given .0 .0) (a5 h)
-stands4 h = record { walked = at4 h .loop4 .inv; value-is = h .before .before .before .n4 .given .1; narrowed = h .holding5 .ensures }
+    → Stands (B (ranges4 (at4 h))) (A (ranges4 (at4 h))) (F4 (ranges4 (at4 h))) [] (R4 (ranges4 (at4 h))) []
+    (In (a4 (up4 (at4 h)))) (In (at4 h .loop4 .k4)) (at4 h .loop4 .n4) (h .before .before .before .n4 .given .0 .0) (left4 h)
+stands4 h = record { walked = at4 h .loop4 .inv; value-is = h .before .before .before .n4 .given .1; narrowed = left-last _ _ _ }
 
 -- ---- why each value comes to nothing: the next field has a cover, or a box is left past the last
 
-fails1 : (d : End1) → Fails (B (ranges1 (d .before .before))) (A (ranges1 (d .before .before))) (Fs1 (ranges1 (d .before .before))) (S1 (ranges1 (d .before .before))) (a1 (up1 (d .before .before))) (d .before .before .loop .k1)
+fails1 : (d : End1)
+    → Fails (B (ranges1 (d .before .before))) (A (ranges1 (d .before .before))) (Fs1 (ranges1 (d .before .before)))
+    (S1 (ranges1 (d .before .before))) (In (a1 (up1 (d .before .before)))) (d .before .before .loop .k1)
 fails1 d = level-fails _ _ _ _ _ _ _ _ _ (d .before .before .loop .inv .0) (d .enum-told2 .given .1)
 
-fails2 : (d : End2) → Fails (B (ranges2 (d .before .before))) (A (ranges2 (d .before .before))) (Fs2 (ranges2 (d .before .before))) (S2 (ranges2 (d .before .before))) (a2 (up2 (d .before .before))) (d .before .before .loop2 .k2)
+fails2 : (d : End2)
+    → Fails (B (ranges2 (d .before .before))) (A (ranges2 (d .before .before))) (Fs2 (ranges2 (d .before .before)))
+    (S2 (ranges2 (d .before .before))) (In (a2 (up2 (d .before .before)))) (d .before .before .loop2 .k2)
 fails2 d = level-fails _ _ _ _ _ _ _ _ _ (d .before .before .loop2 .inv .0) (d .enum-told3 .given .1)
 
-fails3 : (d : End3) → Fails (B (ranges3 (d .before .before))) (A (ranges3 (d .before .before))) (Fs3 (ranges3 (d .before .before))) (S3 (ranges3 (d .before .before))) (a3 (up3 (d .before .before))) (d .before .before .loop3 .k3)
+fails3 : (d : End3)
+    → Fails (B (ranges3 (d .before .before))) (A (ranges3 (d .before .before))) (Fs3 (ranges3 (d .before .before)))
+    (S3 (ranges3 (d .before .before))) (In (a3 (up3 (d .before .before)))) (d .before .before .loop3 .k3)
 fails3 d = level-fails _ _ _ _ _ _ _ _ _ (d .before .before .loop3 .inv .0) (d .enum-told4 .given .1)
 
-fails4 : (d : End4) → Fails (B (ranges4 (d .before .before))) (A (ranges4 (d .before .before))) (Fs4 (ranges4 (d .before .before))) (S4 (ranges4 (d .before .before))) (a4 (up4 (d .before .before))) (d .before .before .loop4 .k4)
+fails4 : (d : End4)
+    → Fails (B (ranges4 (d .before .before))) (A (ranges4 (d .before .before))) (Fs4 (ranges4 (d .before .before)))
+    (S4 (ranges4 (d .before .before))) (In (a4 (up4 (d .before .before)))) (d .before .before .loop4 .k4)
 fails4 d = level-fails _ _ _ _ _ _ _ _ _ (d .before .before .loop4 .inv) (d .enum-told5 .given .1)
 
-fails5 : (c : tie.After-furthest I4 m4 I3 m3 I2 m2 I1 m1 I0 m0) → Fails (B (ranges4 (at4 (c .before .before .before)))) (A (ranges4 (at4 (c .before .before .before)))) [] [] (a5 (c .before .before .before)) (c .furthest .result)
-fails5 c = fails-last _ _ _ _ _ (c .furthest .ensures)
+fails5 : (c : tie.Else2 I4 m4 I3 m3 I2 m2 I1 m1 I0 m0)
+    → Fails (B (ranges4 (at4 (c .before)))) (A (ranges4 (at4 (c .before)))) [] [] (left4 (c .before)) (c .before .furthest .result)
+fails5 c = fails-last _ _ _ _ _ _ (c .before .furthest .ensures) (c .if2 .left)
 
 -- ---- the limit: without one there is none still
 
@@ -377,12 +391,12 @@ stopped c z =
 again4 : tie.Need-loop4-again I4 m4 I3 m3 I2 m2 I1 m1 I0 m0
 again4 c =
     let d = c .before .before in
-    level-next _ _ _ _ _ _ _ (c .following .result) _ (stands4 (d .before .before .before)) (fails5 d) (c .following .ensures)
+    level-next _ _ _ _ _ _ _ (c .following .result) _ (stands4 (d .before)) (fails5 d) (c .following .ensures)
 
 less4 : tie.Need-loop4-less I4 m4 I3 m3 I2 m2 I1 m1 I0 m0
 less4 c =
     let d = c .before .before in
-    level-falls _ _ _ _ _ _ _ (c .following .result) (stands4 (d .before .before .before)) (fails5 d) (c .following .ensures)
+    level-falls _ _ _ _ _ _ _ (c .following .result) (stands4 (d .before)) (fails5 d) (c .following .ensures)
 
 again3 : tie.Need-loop3-again I4 m4 I3 m3 I2 m2 I1 m1 I0 m0
 again3 c =
@@ -442,7 +456,7 @@ found-at c =
     (level-found (B r) (A r) (F2 r) (Fs3 r) (R2 r) (S3 r) _ _ (stands2 h2)
     (level-found (B r) (A r) (F3 r) (Fs4 r) (R3 r) (S4 r) _ _ (stands3 h3)
     (level-found (B r) (A r) (F4 r) [] (R4 r) [] _ _ (stands4 h4)
-    (last-found (boxIn (B r) (A r) []) (a5 h4) (c .if2 .taken))))))))
+    (last-found _ _ _ (boxIn (B r) (A r) []) _ (h4 .furthest .ensures) (c .if2 .taken))))))))
 
 none-at : tie.Need-returns I4 m4 I3 m3 I2 m2 I1 m1 I0 m0
 none-at c =
@@ -506,10 +520,9 @@ walk-spec =
     (λ c κs. search needs)
     starts4 (λ c. c .match5 .keys1) (λ c. c .match5 .keys2)
     (λ c κs. let p = c .before .before .before .before in (small4 (ranges4 p), numbered4 (up4 p)))
-    (λ c κs. let h = c .before .before in (small4 (ranges4 (at4 h)), numbered5 h, c .before .if2 .left))
     (λ c κs.
-    let h = c .before .before .before .before in
-    (small4 (ranges4 (at4 h)), λ k i. numbered5 h k (fails5 (c .before) .part k i)))
+    let h = c .before .before in
+    (small4 (ranges4 (at4 h)), λ k i. numbered4 (up4 (at4 h)) k (fails5 (c .before) .part k i .0)))
     less4 again4
     (λ c κs. at3 (up4 (c .before .before .before)) .loop3 .inv .1 .long)
     (λ c κs.

@@ -1,4 +1,4 @@
--- `Number::new` meets its contract: the struct holds the number that it was given. Assumes nothing.
+-- `Number::new` meets its contract: the upper word is 0. Assumes nothing.
 use borrow.Author.Needs.{needs}
 use Rattle.policy.specs.Views.{value}
 use Rattle.policy.proofs.number.Number.new.Statement.{statement}

@@ -1,5 +1,5 @@
 -- `Table::with_filter` meets its contract: the new filter stands where the filters end, and the rows' selectors stay. Assumes nothing.
-use mathlib.Core.Path.{_≡_, refl}
+use mathlib.Core.Path.{_≡_}
 use Prim.Native.Nat.{_+_}
 use native.Mathlib.Omega.{arith}
 use borrow.Author.Needs.{needs}
@@ -21,8 +21,8 @@ returns c =
       same =
           rw (
             past,
-            filters-grown (t .«filter_roots») (t .«filter_actions») (t .bounds) (t .filters) f (omega arith) (omega arith) refl (omega arith),
-            rows-kept (t .bounds) (mostRows + t .filters) (f .selector) refl (t .heads) (t .rows) (omega arith),
+            filters-grown (t .«filter_roots») (t .«filter_actions») (t .bounds) (t .filters) f (omega arith) (omega arith) (c .before .before .pre .2) (omega arith),
+            rows-kept (t .bounds) (mostRows + t .filters) (f .selector) (c .before .before .pre .2) (t .heads) (t .rows) (omega arith),
           );
       held = search (c .before .before .pre .0 .unused, needs);
     }

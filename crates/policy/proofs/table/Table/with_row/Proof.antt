@@ -40,8 +40,8 @@ returns c =
           rw (
             c .put-selector .ensures,
             c .before .before .put-head .ensures,
-            filters-kept (t .bounds) (t .rows) s refl (t .«filter_roots») (t .«filter_actions») (t .filters) (omega arith),
-            rows-grown (t .heads) (t .bounds) (t .rows) (headOf r) s refl (omega arith) refl (omega arith),
+            filters-kept (t .bounds) (t .rows) s (p .pre .2) (t .«filter_roots») (t .«filter_actions») (t .filters) (omega arith),
+            rows-grown (t .heads) (t .bounds) (t .rows) (headOf r) s refl (omega arith) (p .pre .2) (omega arith),
             tabulate-counted (λ k. getD (r .gateways) k 0) mostGateways (r .gateways) 0 (eight-gateways r (p .good .1 .0)) (λ k b. refl),
           );
       held = search (p .pre .0 .unused, needs);

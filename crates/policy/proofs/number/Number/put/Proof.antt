@@ -1,4 +1,4 @@
--- `put_number` meets its contract. The loop's invariant: the bytes from the k-th on, when stored, make what all bytes make. The measure is how
+-- `Number::put` meets its contract. The loop's invariant: the bytes from the k-th on, when stored, make what all bytes make. The measure is how
 -- many are left. Assumes nothing.
 use mathlib.Core.Path.{_≡_, _∙_}
 use mathlib.Core.List.{List}
@@ -11,9 +11,9 @@ use lib.ListN.{length, set}
 use lib.Seq.{sets}
 use Rattle.base.proofs.Laws.Lists.{sets-long}
 use Rattle.hex.specs.Numbers.{numberBytes}
 use Rattle.policy.specs.Views.{value}
-use Rattle.frames.proofs.parts.put_number.Statement.{statement}
-use Rattle.frames.proofs.parts.put_number.Tie as tie
+use Rattle.policy.proofs.number.Number.put.Statement.{statement}
+use Rattle.policy.proofs.number.Number.put.Tie as tie
 
 abbrev I : tie.InvT-loop
 I n width bytes₀ at k₀ bytes k = (k ≤ width) × (sets bytes (at + k) (numberBytes (width - k) (value n)) ≡ sets bytes₀ at (numberBytes width (value n)))
@@ -28,8 +28,8 @@ module _ (c : tie.At-loop I μ) where
 
   long : length (c .loop .bytes) ≡ length (now (s .args .bytes))
   long =
-      sets-long (c .loop .bytes) (now (s .args .bytes)) (s .args .at + c .loop .k) (s .args .at) (numberBytes (s .args .width - c .loop .k) (value (s .args .n)))
-      (numberBytes (s .args .width) (value (s .args .n))) (c .loop .inv .1)
+      sets-long (c .loop .bytes) (now (s .args .bytes)) (s .args .at + c .loop .k) (s .args .at) (numberBytes (s .args .width - c .loop .k) (value (s .args .self)))
+      (numberBytes (s .args .width) (value (s .args .self))) (c .loop .inv .1)
 
 -- One byte more.
 stored : (bytes : List ℕ) (at k width n b : ℕ) → k < width → b ≡ (n / 256 ^ (width - 1 - k)) % 256
@@ -46,8 +46,8 @@ returns c =
     let e : s l .args .width - l .loop .k ≡ 0 = omega (arith, l .loop .inv .0, c .loop-test .left) in
     rw e at (l .loop .inv .1)
 
-pub put-number-spec : {M : Type 1} → statement M
-put-number-spec =
+pub put-spec : {M : Type 1} → statement M
+put-spec =
     tie.close
     (tie.spec
     I
