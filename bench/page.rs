@@ -13,9 +13,11 @@ use std::time::Duration;
 
 /// What List of a typical full table is to stay under.
 const MOST_LIST: Duration = Duration::from_millis(1);
+/// What Check of it may take, in times of the second implementation's.
+const MOST_CHECK: f64 = 1.5;
 /// What code and tables may take, and the stack.
-const MOST_BYTES: usize = 128 * 1024;
-const MOST_STACK: usize = 64 * 1024;
+const MOST_BYTES: usize = 32 * 1024;
+const MOST_STACK: usize = 40 * 1024;
 
 const SIZES: [usize; 4] = [8, 16, 32, 64];
 
@@ -47,13 +49,23 @@ pub fn print(library: &str) -> bool {
     print_calls(full.chain(worst.iter().copied()));
     families.iter().for_each(|family| print_growth(family));
     prefix_lists();
-    let mut targets = vec![Target {
-        line: format!(
-            "List of the typical full table: {} ms, under 1",
-            ms(typical.list())
-        ),
-        met: typical.list() < MOST_LIST,
-    }];
+    let [check, second] = typical.times[Call::Check as usize];
+    let check = ratio(check, second);
+    let mut targets = vec![
+        Target {
+            line: format!(
+                "List of the typical full table: {} ms, under 1",
+                ms(typical.list())
+            ),
+            met: typical.list() < MOST_LIST,
+        },
+        Target {
+            line: format!(
+                "Check of it: {check:.2} times the second implementation's, at most {MOST_CHECK}"
+            ),
+            met: check <= MOST_CHECK,
+        },
+    ];
     targets.extend(worst::lists(typical.list(), &worst));
     targets.extend(worst::searches(&worst));
     targets.push(meshes::meshes(&worst));

@@ -74,7 +74,7 @@ pub fn line(text: &[u8], k: usize) -> &[u8]
         return &text[..0];
     }
     let before = table::lines_before(r.table.entities, r.table.capped, 1, r.table.filters);
-    reader::nth_line(text, before + k)
+    reader::lines::nth_line(text, before + k)
 }
 
 // Witness: that row k is dead, or the least packet for which it wins the probe with its own source and destination.

@@ -267,7 +267,7 @@ fn put_question(text: &[u8], line: &[u8], call: Call) {
 // The same for each line.
 fn put_questions(text: &[u8], questions: &[u8], call: Call) {
     for k in 0..questions.len() / QUESTION {
-        put_question(text, reader::nth_line(questions, k), call);
+        put_question(text, reader::lines::nth_line(questions, k), call);
     }
 }
 

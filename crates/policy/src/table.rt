@@ -1,12 +1,13 @@
 // The table. Its long parts are arrays of numbers, so that a function that is called in a loop can be lent them; what it
 // looks at comes back as a small struct.
 ghost use mathlib.Core.Path.{_≡_};
-ghost use Prim.Native.Nat.{_+_, _*_, _<_, _≤_};
+ghost use Prim.Native.Nat.{_+_, _<_, _≤_};
+ghost use lib.ListN.{set};
 ghost use Rattle.policy.specs.Limits.{mostEntities, technologies, mostFilters, mostRows, mostSelectors, fieldCount};
-ghost use Rattle.policy.specs.Views.{rangeOf, selectorOf, rowOf, filterOf, coefficientsOf, entityOf, rangeIn, selectorIn, filterIn, rowIn, tableOf, Held, Stands, noTable, withEntity, withCap, withFloor, withFilter, withRow};
+ghost use Rattle.policy.specs.Views.{rangeOf, selectorOf, rowOf, filterOf, coefficientsOf, entityOf, rangeIn, selectorIn, filterIn, rowIn, tableOf, Held, Stands, noTable};
 ghost use Rattle.policy.specs.Words.{packedRange, unpackedRange, Packs};
 ghost use Rattle.policy.specs.Wellformed.{SelectorRule};
-ghost use Rattle.policy.specs.Writes.{putSelector, putHead};
+ghost use Rattle.policy.specs.Writes.{putSelector, headOf, putHead};
 use crate::limits::ENTITIES;
 use crate::limits::FILTERS;
 use crate::limits::HEAD_COUNT;
@@ -216,6 +217,53 @@ fn put_head(heads: &mut Heads, i: usize, head: [u8; HEAD_COUNT])
     }
 }
 
+// Writes the filter at k, and changes nothing else.
+pub fn put_filter<'a>(
+    roots: &'a mut PerFilter,
+    actions: &'a mut PerFilter,
+    bounds: &'a mut Bounds,
+    k: usize,
+    f: Filter,
+)
+    requires { ⌜ (k < mostFilters) × SelectorRule (selectorOf (f .selector)) ⌝ }
+    ensures roots { λ _. ⌜ now (roots .exit) ≡ set (now (roots .entry)) k (f .root) ⌝ }
+    ensures actions { λ _. ⌜ now (actions .exit) ≡ set (now (actions .entry)) k (f .action) ⌝ }
+    ensures bounds { λ _. ⌜ now (bounds .exit) ≡ putSelector (now (bounds .entry)) (mostRows + k) (selectorOf (f .selector)) ⌝ }
+{
+    roots[k] = f.root;
+    actions[k] = f.action;
+    put_selector(bounds, ROWS + k, f.selector);
+}
+
+// Writes the row at i, and changes nothing else.
+pub fn put_row<'a>(heads: &'a mut Heads, bounds: &'a mut Bounds, i: usize, r: Row)
+    requires { ⌜ (i < mostRows) × SelectorRule (selectorOf (r .selector)) ⌝ }
+    ensures heads { λ _. ⌜ now (heads .exit) ≡ putHead (now (heads .entry)) i (headOf r) ⌝ }
+    ensures bounds { λ _. ⌜ now (bounds .exit) ≡ putSelector (now (bounds .entry)) i (selectorOf (r .selector)) ⌝ }
+{
+    let g = r.gateways;
+    let head = [
+        r.holder,
+        r.source,
+        r.destination,
+        r.technology,
+        r.coefficients.header,
+        r.coefficients.payload,
+        r.coefficients.confidentiality,
+        r.count,
+        g[0],
+        g[1],
+        g[2],
+        g[3],
+        g[4],
+        g[5],
+        g[6],
+        g[7],
+    ];
+    put_head(heads, i, head);
+    put_selector(bounds, i, r.selector);
+}
+
 impl Table {
     // A table of nothing.
     pub fn new() -> Table
@@ -241,82 +289,5 @@ impl Table {
             heads: [0; HEAD_COUNT * ROWS],
             bounds: [0; WORD_COUNT * SELECTORS],
         }
-    }
-
-    // The table with one entity more.
-    pub fn with_entity(mut self, e: Entity) -> Table
-        requires { ⌜ Held self × (self .entities < mostEntities) ⌝ }
-        ensures { λ r. ⌜ Stands r (withEntity (entityOf e) (tableOf self)) ⌝ }
-    {
-        let k = self.entities;
-        self.parents[k] = e.parent;
-        self.layers[k] = e.layer;
-        self.masks[k] = e.mask;
-        self.entities = k + 1;
-        self
-    }
-
-    // The table with the next technology's cap.
-    pub fn with_cap(mut self, c: Coefficients) -> Table
-        requires { ⌜ Held self × (self .capped < technologies) ⌝ }
-        ensures { λ r. ⌜ Stands r (withCap (coefficientsOf c) (tableOf self)) ⌝ }
-    {
-        let k = self.capped;
-        self.caps[k] = c;
-        self.capped = k + 1;
-        self
-    }
-
-    // The table with this floor.
-    pub fn with_floor(mut self, c: Coefficients) -> Table
-        requires { ⌜ Held self ⌝ }
-        ensures { λ r. ⌜ Stands r (withFloor (coefficientsOf c) (tableOf self)) ⌝ }
-    {
-        self.floor = c;
-        self
-    }
-
-    // The table with one filter more.
-    pub fn with_filter(mut self, f: Filter) -> Table
-        requires { ⌜ Held self × (self .filters < mostFilters) × SelectorRule (selectorOf (f .selector)) ⌝ }
-        ensures { λ r. ⌜ Stands r (withFilter (filterOf f) (tableOf self)) ⌝ }
-    {
-        let k = self.filters;
-        self.filter_roots[k] = f.root;
-        self.filter_actions[k] = f.action;
-        put_selector(&mut self.bounds, ROWS + k, f.selector);
-        self.filters = k + 1;
-        self
-    }
-
-    // The table with one row more.
-    pub fn with_row(mut self, r: Row) -> Table
-        requires { ⌜ Held self × (self .rows < mostRows) × SelectorRule (selectorOf (r .selector)) ⌝ }
-        ensures { λ r'. ⌜ Stands r' (withRow (rowOf r) (tableOf self)) ⌝ }
-    {
-        let i = self.rows;
-        let g = r.gateways;
-        let head = [
-            r.holder,
-            r.source,
-            r.destination,
-            r.technology,
-            r.coefficients.header,
-            r.coefficients.payload,
-            r.coefficients.confidentiality,
-            r.count,
-            g[0],
-            g[1],
-            g[2],
-            g[3],
-            g[4],
-            g[5],
-            g[6],
-            g[7],
-        ];
-        put_head(&mut self.heads, i, head);
-        put_selector(&mut self.bounds, i, r.selector);
-        self.rows = i + 1;
-        self
     }
 }

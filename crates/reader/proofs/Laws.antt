@@ -3,6 +3,8 @@ pub mod Lines
 pub mod States
 pub mod Readers
 pub mod Takings
+pub mod Judged
+pub mod Filled
 pub mod Runs
 pub mod Wellformed
 pub mod Alike

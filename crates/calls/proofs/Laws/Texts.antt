@@ -6,6 +6,7 @@
 use mathlib.Core.Path.{_≡_, refl, sym, _∙_}
 use mathlib.Core.List.{List, [], _∷_}
 use Prim.Native.Nat.{ℕ, _<_}
+use native.Mathlib.Omega.{arith}
 use denote.Laws.{Is}
 use denote.Struct.Declared.{row}
 use denote.Struct.Laws.{val}
@@ -15,13 +16,13 @@ use Rattle.base.specs.Answers.{Answer, returned, refusedBy}
 use Rattle.policy.specs.Model.{Table}
 use Rattle.policy.specs.Views.{tableOf, Held}
 use Rattle.policy.specs.Wellformed.{Wellformed}
-use Rattle.policy.proofs.Laws.Tables.{Sized, Counted}
+use Rattle.policy.proofs.Laws.Tables.{Sized, Counted, counted}
 use Rattle.reader.specs.States.{Parsed, tableRead, parse}
 use Rattle.reader.specs.Views.{Parses}
 use Rattle.reader.specs.declared.Reader.{Reader}
 use Rattle.reader.proofs.Reader.{the-type}
 use Rattle.reader.proofs.Reader.Laws.{the-laws}
-use Rattle.reader.proofs.Laws.Readers.{table-sized, table-counted}
+use Rattle.reader.proofs.Laws.Readers.{table-sized}
 use Rattle.reader.proofs.Laws.Wellformed.{accepted-wellformed}
 use Rattle.calls.specs.Rows.{onRow}
 
@@ -43,8 +44,8 @@ accepted text r good p h =
       read = e;
       well = accepted-wellformed text (tableOf (r .table)) e;
       sized = table-sized r good;
-      counted = table-counted r good (p .ready);
-      held = p .ready .held;
+      counted = counted (r .table) (omega (arith, table-sized r good .caps, p .held .capped));
+      held = p .held;
     }
 
 pub row-answered : {A : Type 0} (value : Table → ℕ → A) (k : ℕ) (x : Answer Parsed) (t : Table) → x ≡ returned (tableRead t) → k < length (t .rows)

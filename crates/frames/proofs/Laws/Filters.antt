@@ -43,7 +43,7 @@ pub record FilterInRange (f : Filter) : Type 0 where
   pub selector : Fits boxWidths (f .selector)
   pub action : f .action ≤ passing
 
-pub filter-kept : (t : Table) (f : Filter) → FilterInRange f → refusal (filterContent (parentsOf t) f) ≡ 0 → FilterRule t f
+filter-kept : (t : Table) (f : Filter) → FilterInRange f → refusal (filterContent (parentsOf t) f) ≡ 0 → FilterRule t f
 filter-kept t f range h =
     let some = inhabited (f .selector) in
     let root = refusal-none (isRoot (parentsOf t) (f .root)) badNumber (or-else some emptyRange ∷ []) (λ z. omega arith) h in

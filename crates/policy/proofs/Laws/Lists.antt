@@ -34,11 +34,6 @@ module _ (bounds : List ℕ) (k : ℕ) (s : Selector) (rule : SelectorRule s) wh
       tabulate-same (filterIn roots actions (putSelector bounds k s)) (filterIn roots actions bounds) n
       (λ j b. rw (selector-elsewhere bounds k s rule (mostRows + j) (λ q. omega arith)))
 
-  pub rows-kept : (heads : List ℕ) (n : ℕ) → n ≤ k → rowsIn heads (putSelector bounds k s) n ≡ rowsIn heads bounds n
-  rows-kept heads n h =
-      tabulate-same (rowIn heads (putSelector bounds k s)) (rowIn heads bounds) n
-      (λ j b. rw (selector-elsewhere bounds k s rule j (λ q. omega arith)))
-
 -- ---- one more
 
 pub entities-grown :

@@ -14,11 +14,12 @@ use denote.Struct.Laws.{val}
 use lib.ListN.{length, getD, take, length-map, List·getD-eq-default}
 use lib.Seq.{length-take-le}
 use Rattle.policy.specs.Limits.{mostEntities, technologies, mostFilters, mostRows, mostGateways, mostSelectors, headCount, wordCount}
-use Rattle.policy.specs.Model.{Table, noParent, noEntity, entityAt, parentOf, parentsOf, layersOf}
+use Rattle.policy.specs.Model.{Table, noParent, noEntity, entityAt, parentOf}
 use Rattle.policy.specs.Views.{coefficientsOf, parentIn, entityIn, filterIn, tableOf, Held}
 use Rattle.policy.specs.Wellformed.{Wellformed}
 use Rattle.policy.specs.declared.row.Row.{Row as RowStruct}
 use Rattle.policy.specs.declared.table.Table.{Table as TableStruct}
+use Rattle.base.specs.Lists.{tabulate}
 use Rattle.base.proofs.Laws.Lists.{getD-default, length-tabulate, getD-tabulate, map-tabulate, tabulate-take}
 use Rattle.policy.proofs.Laws.Lists.{length-rows}
 use Rattle.policy.proofs.row.Row.{the-type as row-type}
@@ -40,7 +41,7 @@ pub record Sized (t : TableStruct) : Type 0 where
   pub bounds : length (t .bounds) ≡ wordCount * mostSelectors
 
 -- owning an array of structs tells the length of the list of what their records are taken to
-length-mapped : {X Y : Type 0} (f : X → Y) (l : List X) (n : ℕ) → length (map f l) ≡ n → length l ≡ n
+pub length-mapped : {X Y : Type 0} (f : X → Y) (l : List X) (n : ℕ) → length (map f l) ≡ n → length l ≡ n
 length-mapped f l n e = sym (length-map l f) ∙ e
 
 pub sized : (t : TableStruct) → Is (row the-type) t (val the-type the-laws t ∷ []) → Sized t
@@ -78,16 +79,13 @@ entity-same t e h = getD-tabulate (entityIn (t .parents) (t .layers) (t .masks))
 pub mask-same : (t : TableStruct) (e : ℕ) → e < t .entities → entityAt (tableOf t) e .mask ≡ getD (t .masks) e 0
 mask-same t e h = ap (λ x. x .mask) (entity-same t e h)
 
--- the parents and the layers of the table's entities are the first of the struct's
-pub parents-taken : (t : TableStruct) → t .entities ≤ length (t .parents) → parentsOf (tableOf t) ≡ take (t .entities) (t .parents)
-parents-taken t h =
-    map-tabulate (λ x. x .parent) (entityIn (t .parents) (t .layers) (t .masks)) (t .entities)
-    ∙ tabulate-take (t .parents) (t .entities) h
+-- the parents and the layers of the entities that runs hold are the first of them
+module _ (parents layers masks : List ℕ) (n : ℕ) where
+  pub parents-taken : n ≤ length parents → map (λ x. x .parent) (tabulate (entityIn parents layers masks) n) ≡ take n parents
+  parents-taken h = map-tabulate (λ x. x .parent) (entityIn parents layers masks) n ∙ tabulate-take parents n h
 
-pub layers-taken : (t : TableStruct) → t .entities ≤ length (t .layers) → layersOf (tableOf t) ≡ take (t .entities) (t .layers)
-layers-taken t h =
-    map-tabulate (λ x. x .layer) (entityIn (t .parents) (t .layers) (t .masks)) (t .entities)
-    ∙ tabulate-take (t .layers) (t .entities) h
+  pub layers-taken : n ≤ length layers → map (λ x. x .layer) (tabulate (entityIn parents layers masks) n) ≡ take n layers
+  layers-taken h = map-tabulate (λ x. x .layer) (entityIn parents layers masks) n ∙ tabulate-take layers n h
 
 no-entity : (t : Table) (e : ℕ) → length (t .entities) ≤ e → entityAt t e ≡ noEntity
 no-entity t e h = List·getD-eq-default (t .entities) noEntity h

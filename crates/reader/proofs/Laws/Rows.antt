@@ -108,7 +108,7 @@ module _ (t : Table) (rules : (k : ℕ) → k < length (t .rows) → RowRule t (
 
 -- ---- accepted texts
 
-caps-counted : (n : ℕ) (cs : List Coefficients) → length (capFrames n cs) ≡ length cs
+pub caps-counted : (n : ℕ) (cs : List Coefficients) → length (capFrames n cs) ≡ length cs
 caps-counted n [] = refl
 caps-counted n (c ∷ cs) = ap suc (caps-counted (suc n) cs)
 

@@ -1,88 +1,118 @@
--- What a reader comes to by a line:
+-- What a state comes to by a line:
+--   goes-to: what comes after, by an equation
 --   Fit, Content: the numbers that refuse a line of some kind
 --   fit-by, content-by: what the tests that were made tell of them
 --   has-form, has-room: a line that is not refused for them has its length and its place
---   by-misfit, by-content, by-value: what the reader comes to, refused or with the line's value
+--   by-misfit, by-content, by-value: what the state comes to, refused or with the line's value
+--   moves-going, moves-refused: by whether it is refused
 --   step-no-line, step-line: by whether the line is pairs of digits, and by its kind byte
 -- Assumes nothing.
-use mathlib.Core.Path.{_≡_, sym, ap, _∙_}
+use mathlib.Core.Path.{_≡_, sym, ap, subst, _∙_}
 use mathlib.Core.Bool.{Bool, true, false}
 use mathlib.Core.List.{List}
-use Prim.Native.Nat.{ℕ, suc, _≤_}
-use borrow.Author.Tests.{eq-eqb}
+use Prim.Native.Nat.{ℕ, suc}
 use lib.ListN.{getD, drop}
 use Rattle.base.specs.Checks.{refusal}
 use Rattle.hex.specs.Lines.{isLine, bytesOf}
 use Rattle.hex.proofs.Laws.Lines.{bytesOf-line}
-use Rattle.policy.specs.Views.{tableOf, Stands}
+use Rattle.policy.specs.Model.{Table}
 use Rattle.frames.specs.Refusals.{noLine}
-use Rattle.frames.specs.Progress.{linesRead, misfitOf}
+use Rattle.frames.specs.Progress.{Progress, linesRead, misfitOf}
 use Rattle.frames.specs.Kinds.{FrameName, describe}
 use Rattle.frames.proofs.Laws.Kinds.{lawful}
 use Rattle.reader.specs.Frames.{frameOfKind, frameOf, frameIn}
-use Rattle.reader.specs.States.{reading, refused, checks, takeFrame, step}
-use Rattle.reader.specs.Views.{progressOf, stateOf, stateWith, Reads}
-use Rattle.reader.specs.declared.Reader.{Reader}
+use Rattle.reader.specs.States.{State, reading, refused, checks, takeFrame, step}
+use Rattle.reader.specs.Views.{Ready, Has, Reads, Goes, Refuses, Takes, Moves}
+use Rattle.reader.specs.declared.state.State.{State as StateStruct}
 use Rattle.reader.proofs.Laws.States.{faultless, faulty, fitOf, fitted, frame-misfit, frame-content, frame-grown}
-use Rattle.reader.proofs.Laws.Readers.{moved, reads}
+use Rattle.reader.proofs.Laws.Readers.{progressOf, has-own}
 
--- ---- a line of the kind k with the bytes bs after its kind byte, after what the reader r has read
+-- What comes after is also what that is equal to.
+pub goes-to : {r q : StateStruct} {f g : Progress → State} → Goes r f q → ((p : Progress) → Has r p → f p ≡ g p) → Goes r g q
+goes-to {r} {q} h e = record { ready = h .ready; reads = λ p a. subst (Reads q) (e p a) (h .reads p a) }
+
+-- ---- a line of the kind k with the bytes bs after its kind byte, after what the state r has
 
 -- The number n refuses it for its form or its place, or is 0.
-pub record Fit (r : Reader) (k : FrameName) (bs : List ℕ) (n : ℕ) : Type 0 where
-  pub same : fitOf (progressOf r) k bs ≡ n
+pub record Fit (r : StateStruct) (k : FrameName) (bs : List ℕ) (n : ℕ) : Type 0 where
+  pub same : (p : Progress) → Has r p → fitOf p k bs ≡ n
 
 -- The number n refuses it for its content, or is 0.
-pub record Content (r : Reader) (k : FrameName) (bs : List ℕ) (n : ℕ) : Type 0 where
-  pub same : refusal (describe k .content (tableOf (r .table)) (describe k .value bs)) ≡ n
+pub record Content (r : StateStruct) (k : FrameName) (bs : List ℕ) (n : ℕ) : Type 0 where
+  pub same : (p : Progress) → Has r p → refusal (describe k .content (p .table) (describe k .value bs)) ≡ n
 
-module _ (r : Reader) (k : FrameName) (bs : List ℕ) where
+module _ (r : StateStruct) (k : FrameName) (bs : List ℕ) where
   -- by the tests that were made
-  pub fit-by : (long placed : Bool) {n : ℕ} → long ≡ describe k .long bs → placed ≡ describe k .placed (progressOf r) (describe k .value bs)
-      → n ≡ misfitOf long placed → Fit r k bs n
-  fit-by long placed e f h = record { same = rw (← e, ← f) (sym h) }
+  pub fit-by : (long placed : Bool) {n : ℕ} → long ≡ describe k .long bs
+      → ((p : Progress) → Has r p → placed ≡ describe k .placed p (describe k .value bs)) → n ≡ misfitOf long placed → Fit r k bs n
+  fit-by long placed e f h = record { same = λ p a. rw (← e, ← f p a) (sym h) }
 
   -- by rules over numbers that are the table's, of what the value stands for
-  pub content-by : {A : Type 0} {l m : List ℕ} {v w : A} {n : ℕ} (f : List ℕ → A → ℕ) → l ≡ m → w ≡ v → n ≡ f m w
-      → f l v ≡ refusal (describe k .content (tableOf (r .table)) (describe k .value bs)) → Content r k bs n
-  content-by f e g h q = record { same = cc }
+  pub content-by : {A : Type 0} {m : List ℕ} {v w : A} {n : ℕ} (f : List ℕ → A → ℕ) (l : Table → List ℕ) → ((p : Progress) → Has r p → l (p .table) ≡ m)
+      → w ≡ v → n ≡ f m w → ((p : Progress) → f (l (p .table)) v ≡ refusal (describe k .content (p .table) (describe k .value bs))) → Content r k bs n
+  content-by f l e g h q = record { same = λ p a. let x = e p a in let y = q p in cc }
 
-module _ {r : Reader} {k : FrameName} {bs : List ℕ} {n : ℕ} (x : Fit r k bs n) where
+module _ {r : StateStruct} {k : FrameName} {bs : List ℕ} {n : ℕ} (x : Fit r k bs n) where
   pub has-form : n ≡ 0 → describe k .long bs ≡ true
-  has-form h = fitted (progressOf r) k bs (x .same ∙ h) .0
+  has-form h = fitted (progressOf r) k bs (x .same (progressOf r) (has-own r) ∙ h) .0
 
   pub has-room : n ≡ 0 → describe k .placed (progressOf r) (describe k .value bs) ≡ true
-  has-room h = fitted (progressOf r) k bs (x .same ∙ h) .1
+  has-room h = fitted (progressOf r) k bs (x .same (progressOf r) (has-own r) ∙ h) .1
 
-  pub by-misfit : {q : Reader} → (n ≡ 0 → ⊥) → Reads q (refused n (suc (linesRead (progressOf r)))) → Reads q (stateWith r k bs)
+  pub by-misfit : {q : StateStruct} → (n ≡ 0 → ⊥) → Refuses r n q → Takes r k bs q
   by-misfit z h =
-      let e = frame-misfit (progressOf r) k bs (λ e. z (sym (x .same) ∙ e)) ∙ x .same in
-      moved h (sym (faulty (linesRead (progressOf r)) (progressOf r) (frameIn k bs) n e z))
+      goes-to h
+      (λ p a.
+      let e = x .same p a in
+      sym (faulty (linesRead p) p (frameIn k bs) n (frame-misfit p k bs (λ y. z (sym e ∙ y)) ∙ e) z))
 
   module _ (fit : n ≡ 0) {m : ℕ} (c : Content r k bs m) where
-    checked : refusal (checks (progressOf r) (frameIn k bs)) ≡ m
-    checked = frame-content (progressOf r) k bs (x .same ∙ fit) ∙ c .same
+    checked : (p : Progress) → Has r p → refusal (checks p (frameIn k bs)) ≡ m
+    checked p a = frame-content p k bs (x .same p a ∙ fit) ∙ c .same p a
 
-    pub by-content : {q : Reader} → (m ≡ 0 → ⊥) → Reads q (refused m (suc (linesRead (progressOf r)))) → Reads q (stateWith r k bs)
-    by-content z h = moved h (sym (faulty (linesRead (progressOf r)) (progressOf r) (frameIn k bs) m checked z))
+    pub by-content : {q : StateStruct} → (m ≡ 0 → ⊥) → Refuses r m q → Takes r k bs q
+    by-content z h = goes-to h (λ p a. sym (faulty (linesRead p) p (frameIn k bs) m (checked p a) z))
 
-    pub by-value : {q : Reader} → m ≡ 0 → q .number ≡ 0 → Stands (q .table) (describe k .grown (describe k .value bs) (progressOf r) .table)
-        → q .floored ≡ describe k .grown (describe k .value bs) (progressOf r) .floored
-        → describe k .grown (describe k .value bs) (progressOf r) .floored ≤ 1 → Reads q (stateWith r k bs)
-    by-value {q} z a s f b =
-        let p = progressOf r in
-        moved (reads q (describe k .grown (describe k .value bs) p) (suc (linesRead p)) a s f b (lawful k .one-line p (describe k .value bs) (has-room fit)))
-        (sym (faultless (linesRead p) p (frameIn k bs) (checked ∙ z) ∙ ap (reading (suc (linesRead p))) (frame-grown p k bs (x .same ∙ fit))))
+    pub by-value : {q : StateStruct} → m ≡ 0 → q .number ≡ 0 → Ready q
+        → ((p : Progress) → Has r p → Has q (describe k .grown (describe k .value bs) p)) → Takes r k bs q
+    by-value {q} z going ready has =
+        record {
+          ready = ready;
+          reads = λ p a.
+              let fits = x .same p a ∙ fit in
+              let v = describe k .value bs in
+              subst (Reads q)
+              (sym (faultless (linesRead p) p (frameIn k bs) (checked p a ∙ z) ∙ ap (reading (suc (linesRead p))) (frame-grown p k bs fits)))
+              (going, sym (lawful k .one-line p v (fitted p k bs fits .1)), has p a);
+        }
 
--- ---- a line, for a reader that is not refused
+-- ---- a line
 
-module _ (r : Reader) (line : List ℕ) (going : r .number ≡ 0) where
-  pub step-no-line : isLine line ≡ false → step (stateOf r) line ≡ refused noLine (suc (linesRead (progressOf r)))
+module _ (r : StateStruct) (line : List ℕ) where
+  -- A refusal stays.
+  pub moves-refused : (r .number ≡ 0 → ⊥) → Ready r → Moves r (λ s. step s line) r
   unfolding step
-  step-no-line h = rw (eq-eqb (r .number) 0 going) (rw h)
+  moves-refused z ready = record { ready = ready; reads = stays }
+    where
+      stays : (s : State) → Reads r s → Reads r (step s line)
+      stays (reading n p) h = absurd (z (h .0))
+      stays (refused number at) h = h
+
+  -- A state that is not refused goes on with what it has.
+  pub moves-going : {q : StateStruct} → r .number ≡ 0 → Goes r (λ p. step (reading (linesRead p) p) line) q → Moves r (λ s. step s line) q
+  moves-going {q} z g = record { ready = g .ready; reads = goes }
+    where
+      goes : (s : State) → Reads r s → Reads q (step s line)
+      goes (reading n p) h = subst (λ m. Reads q (step (reading m p) line)) (sym (h .1)) (g .reads p (h .2))
+      goes (refused number at) h = absurd (h .some (sym (h .by) ∙ z))
+
+module _ (n : ℕ) (p : Progress) (line : List ℕ) where
+  pub step-no-line : isLine line ≡ false → step (reading n p) line ≡ refused noLine (suc n)
+  unfolding step
+  step-no-line h = rw h
 
   -- The first byte is the kind, and the frame's bytes are those of the line after its first two characters.
   pub step-line : isLine line ≡ true → (byte : ℕ) → byte ≡ getD (bytesOf line) 0 0
-      → step (stateOf r) line ≡ takeFrame (linesRead (progressOf r)) (progressOf r) (frameOfKind byte (bytesOf (drop 2 line)))
+      → step (reading n p) line ≡ takeFrame n p (frameOfKind byte (bytesOf (drop 2 line)))
   unfolding step frameOf
-  step-line h byte e = rw (eq-eqb (r .number) 0 going) (rw (h, bytesOf-line line h, ← e))
+  step-line h byte e = rw (h, bytesOf-line line h, ← e)
