@@ -79,7 +79,7 @@ Ends r (returned q) = (r .number ≡ 0) × Has r (allRead (q .table))
 Ends r (refusedBy number line) = IsRefused r number line
 
 -- The text says a table, and keeps the rules; the struct has it, but for its filters and rows.
-pub record Accepted (text : List ℕ) (r : StateStruct) : Type 0 where
+pub record Fillable (text : List ℕ) (r : StateStruct) : Type 0 where
   pub table : Table
   pub keeps : KeepsRules text table
   pub ready : Ready r
@@ -87,7 +87,7 @@ pub record Accepted (text : List ℕ) (r : StateStruct) : Type 0 where
 
 -- The table is that of the text.
 abbrev pub Filled : List ℕ → StateStruct → TableStruct → Type 0
-Filled text r t = (a : Accepted text r) → Stands t (a .table)
+Filled text r t = (a : Fillable text r) → Stands t (a .table)
 
 abbrev pub parsedOf : Reader → Answer Parsed
 parsedOf r = pick (eqb (r .number) 0) (returned (tableRead (tableOf (r .table)))) (refusedBy (r .number) (r .line))

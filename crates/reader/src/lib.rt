@@ -1,7 +1,7 @@
 // The reader of table texts: a first pass judges each line, and a second one takes the filters and rows of a text that is accepted.
 ghost use mathlib.Core.Path.{_≡_};
 ghost use Rattle.reader.specs.States.{parse};
-ghost use Rattle.reader.specs.Views.{Ready, Ends, Accepted, Filled, Parses};
+ghost use Rattle.reader.specs.Views.{Ready, Ends, Fillable, Filled, Parses};
 
 pub mod lines;
 pub mod state;
@@ -52,7 +52,7 @@ fn judge(text: &[u8]) -> State
 
 // The table of a text that is accepted: what its state has, and the filters and rows of the lines after the floor's. No line is judged again.
 fn fill(text: &[u8], s: State) -> Table
-    requires { ⌜ Accepted (now text) s ⌝ }
+    requires { ⌜ Fillable (now text) s ⌝ }
     ensures { λ t. ⌜ Filled (now (text .entry)) s t ⌝ }
 {
     let mut filter_roots = [0u8; FILTERS];

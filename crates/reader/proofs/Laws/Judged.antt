@@ -16,7 +16,7 @@ use Rattle.frames.specs.Refusals.{noLine, outOfSequence}
 use Rattle.frames.specs.Progress.{Progress, nothing, allRead, linesRead}
 use Rattle.reader.specs.Lines.{linesOf, restOf, lineLength}
 use Rattle.reader.specs.States.{Parsed, tableRead, State, reading, refused, step, run, finish, parse}
-use Rattle.reader.specs.Views.{Ready, Has, Reads, Moves, Refuses, Ends, Accepted, Parses}
+use Rattle.reader.specs.Views.{Ready, Has, Reads, Moves, Refuses, Ends, Fillable, Parses}
 use Rattle.reader.specs.declared.state.State.{State as StateStruct}
 use Rattle.reader.proofs.Laws.Lines.{lines-ended, rest-ended, lines-unended, rest-unended}
 use Rattle.reader.proofs.Laws.Rules.{accepted-exactly}
@@ -123,13 +123,13 @@ module _ (text : List ℕ) (s : StateStruct) where
       go (refusedBy number line) e = record { same = rw (ne-eqb (s .number) 0 n) (λ j. refusedBy (e .by j) (e .at j)); held = held }
 
   -- One that is not refused is that of an accepted text.
-  pub accepts : Ends s (parse text) → s .number ≡ 0 → Ready s → Accepted text s
+  pub accepts : Ends s (parse text) → s .number ≡ 0 → Ready s → Fillable text s
   accepts h z ready = go (parse text) refl h
     where
-      go : (x : Answer Parsed) → parse text ≡ x → Ends s x → Accepted text s
+      go : (x : Answer Parsed) → parse text ≡ x → Ends s x → Fillable text s
       go (returned q) e i = record { table = q .table; keeps = accepted-exactly text (q .table) .0 e; ready = ready; has = i .1 }
       go (refusedBy number line) e i = absurd (i .some (sym (i .by) ∙ z))
 
-  pub parses-filled : (a : Accepted text s) (t : TableStruct) → Stands t (a .table) → Parses (record { table = t; number = 0; line = 0 }) (parse text)
+  pub parses-filled : (a : Fillable text s) (t : TableStruct) → Stands t (a .table) → Parses (record { table = t; number = 0; line = 0 }) (parse text)
   parses-filled a t h =
       record { same = ap (λ x. returned (tableRead x)) (h .same) ∙ sym (accepted-exactly text (a .table) .1 (a .keeps)); held = h .held }

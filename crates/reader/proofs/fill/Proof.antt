@@ -11,7 +11,7 @@ use Rattle.policy.proofs.Laws.Tables.{eight-gateways}
 use Rattle.frames.specs.Progress.{allRead}
 use Rattle.frames.specs.Kinds.{ofFilter}
 use Rattle.reader.specs.Frames.{aFrame, aRow}
-use Rattle.reader.specs.Views.{Accepted}
+use Rattle.reader.specs.Views.{Fillable}
 use Rattle.reader.specs.declared.state.State.{State}
 use Rattle.reader.proofs.Laws.Readers.{counted}
 use Rattle.reader.proofs.Laws.Filled.{Left, First, FilterPart, RowPart, Filtered, Rowed, laterFrames}
@@ -21,13 +21,13 @@ use Rattle.reader.proofs.fill.Statement.{statement}
 use Rattle.reader.proofs.fill.Tie as tie
 
 abbrev I : tie.InvT-loop
-I text s roots₀ actions₀ heads bounds₀ start₀ k₀ roots actions bounds start k = (a : Accepted text s) → Filtered text (a .table) roots actions bounds start k
+I text s roots₀ actions₀ heads bounds₀ start₀ k₀ roots actions bounds start k = (a : Fillable text s) → Filtered text (a .table) roots actions bounds start k
 
 abbrev μ : tie.MeasureT-loop
 μ text s roots₀ actions₀ heads bounds₀ start₀ k₀ roots actions bounds start k = s .filters - k
 
 abbrev J : tie.InvT-loop2
-J text s roots actions heads₀ bounds₀ start₀ k i₀ heads bounds start i = (a : Accepted text s) → Rowed text (a .table) roots actions heads bounds start i
+J text s roots actions heads₀ bounds₀ start₀ k i₀ heads bounds start i = (a : Fillable text s) → Rowed text (a .table) roots actions heads bounds start i
 
 abbrev ν : tie.MeasureT-loop2
 ν text s roots actions heads₀ bounds₀ start₀ k i₀ heads bounds start i = s .rows - i
@@ -63,7 +63,7 @@ module _ (c : tie.After-line-end I μ J ν) where
   abbrev s : State
   s = c .before .before .before .before .before .before .before .args .s
 
-  abbrev own : Accepted text s
+  abbrev own : Fillable text s
   own = c .before .before .before .before .before .before .before .pre
 
   abbrev start : ℕ
@@ -75,7 +75,7 @@ module _ (c : tie.After-line-end I μ J ν) where
   abbrev k : ℕ
   k = c .before .before .before .loop .k
 
-  module _ (a : Accepted text s) where
+  module _ (a : Fillable text s) where
     some : k < length (a .table .filters)
     some = omega (arith, c .before .if1 .taken, a .has .filters)
 
@@ -126,7 +126,7 @@ module _ (c : tie.After-line-end2 I μ J ν) where
   abbrev state : State
   state = c .before .before .before .before .before .before .before .before .before .before .args .s
 
-  abbrev given : Accepted whole state
+  abbrev given : Fillable whole state
   given = c .before .before .before .before .before .before .before .before .before .before .pre
 
   abbrev from : ℕ
@@ -138,7 +138,7 @@ module _ (c : tie.After-line-end2 I μ J ν) where
   abbrev i : ℕ
   i = c .before .before .before .loop2 .i
 
-  module _ (a : Accepted whole state) where
+  module _ (a : Fillable whole state) where
     some-row : i < length (a .table .rows)
     some-row = omega (arith, c .before .if2 .taken, a .has .rows)
 

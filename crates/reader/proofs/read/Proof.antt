@@ -1,7 +1,7 @@
 -- `read` meets its contract: the state says whether the text is refused, and the table of a text that is not is filled. Assumes nothing.
 use borrow.Author.Needs.{needs}
 use denote.Ref.{now}
-use Rattle.reader.specs.Views.{Accepted}
+use Rattle.reader.specs.Views.{Fillable}
 use Rattle.reader.proofs.Laws.Judged.{parses-refused, accepts, parses-filled}
 use Rattle.reader.proofs.read.Statement.{statement}
 use Rattle.reader.proofs.read.Tie as tie
@@ -12,7 +12,7 @@ refused c =
     parses-refused (now (j .before .before .args .text)) (j .judge .result) (j .judge .ensures .1) (c .before .if1 .taken)
     (c .new .result) (c .new .ensures .held)
 
-accepted : (c : tie.Else1) → Accepted (now (c .before .before .before .before .args .text)) (c .before .before .judge .result)
+accepted : (c : tie.Else1) → Fillable (now (c .before .before .before .before .args .text)) (c .before .before .judge .result)
 accepted c =
     let j = c .before .before in
     accepts (now (j .before .before .args .text)) (j .judge .result) (j .judge .ensures .1) (c .if1 .left) (j .judge .ensures .0)
