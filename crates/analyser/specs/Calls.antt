@@ -13,7 +13,7 @@ use Rattle.joining.specs.Joining.{joinable, joined}
 use Rattle.prefixes.specs.Prefixes.{Prefix, prefixes}
 use Rattle.prefixes.specs.Bytes.{address_bytes, prefix_bytes}
 use Rattle.prefixes.specs.Sides.{is_side, side_of}
-use Rattle.frames.specs.Parts.{boxWidths}
+use Rattle.frames.specs.Parts.{box_widths}
 use Rattle.frames.specs.Refusals.{short_output, no_such_entity, not_joinable, no_such_side}
 use Rattle.frames.specs.Kinds.{of_row, describe}
 use Rattle.frames.specs.Rows.{line_of_row}
@@ -119,7 +119,7 @@ joined_row i j t = joined (parent_of t) (row_at t i) (row_at t j)
 
 -- "one row line without line feed .., in capitals", of "the common frame kind".
 abbrev pub joined_line : ℕ → ℕ → Table → List ℕ
-joined_line i j t = line_of_row (describe of_row).byte boxWidths (joined_row i j t)
+joined_line i j t = line_of_row (describe of_row).byte box_widths (joined_row i j t)
 
 -- "11 .., after 9 and before 8"
 abbrev pub join_conditions : ℕ → ℕ → Table → List Check

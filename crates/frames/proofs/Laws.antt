@@ -1,5 +1,4 @@
 -- The laws that crates above cite.
-pub mod Fields
 pub mod Parts
 pub mod Numbers
 pub mod Claims

@@ -36,5 +36,5 @@ cap_kind =
       placed = λ p c. cap_place (length p.table.entities) (length p.table.caps) c.technology;
       content = λ t c. [];
       judged = λ c. [];
-      grown = λ c p. record { table = with_cap c.coefficients p.table; floored = p.floored; form = p.form };
+      grown = λ c p. record { table = with_cap c.coefficients p.table; floored = p.floored };
     }

@@ -52,5 +52,5 @@ entity_kind =
       placed = λ p e. entity_place (length p.table.caps) (length p.table.entities);
       content = λ t e. entity_content (layers_of t) e;
       judged = λ e. an_entity e ∷ [];
-      grown = λ e p. record { table = with_entity e p.table; floored = p.floored; form = p.form };
+      grown = λ e p. record { table = with_entity e p.table; floored = p.floored };
     }

@@ -9,24 +9,19 @@ use Rattle.relations.specs.Selectors.{inhabited}
 use Rattle.frames.specs.Refusals.{bad_number, empty_range}
 use Rattle.frames.specs.Faults.{a_root, a_range}
 use Rattle.frames.specs.Progress.{FrameKind}
-use Rattle.frames.specs.Fields.{FieldForm, kind05, box_of}
-use Rattle.frames.specs.Parts.{selector_from, SaysBox, box_bytes}
+use Rattle.frames.specs.Parts.{selector_from, SaysBox, box_bytes, box_widths}
 use Rattle.frames.specs.Numbers.{is_root}
-
--- The addresses of a filter's box are short.
-abbrev pub filter_box : List FieldForm
-filter_box = box_of kind05
 
 -- "04 filter, 28 bytes: kind, root, box." "A filter frame may have a 29th byte, 0 to drop and 1 to pass; a frame of 28 bytes drops."
 -- The place of that byte.
 abbrev pub action_place : ℕ
-action_place = 1 + box_bytes filter_box
+action_place = 1 + box_bytes box_widths
 
 abbrev pub filter_length : List ℕ → Bool
 filter_length bs = (eqb (length bs) action_place || eqb (length bs) (action_place + 1)) && leb (get_or bs action_place 0) passing
 
 abbrev pub filter_from : List ℕ → Filter
-filter_from bs = record { root = get_or bs 0 0; selector = selector_from 1 filter_box bs; action = get_or bs action_place 0 }
+filter_from bs = record { root = get_or bs 0 0; selector = selector_from 1 box_widths bs; action = get_or bs action_place 0 }
 
 -- What stands after the box says the action: nothing, or one byte.
 abbrev pub SaysAction : List ℕ → ℕ → Type 0
@@ -37,7 +32,7 @@ SaysAction (b ∷ c ∷ bs) action = ⊥
 -- The bytes say the filter.
 pub record SaysFilter (bs : List ℕ) (f : Filter) : Type 0 where
   pub box : List ℕ
-  pub selector : SaysBox filter_box box f.selector
+  pub selector : SaysBox box_widths box f.selector
   pub last : List ℕ
   pub action : SaysAction last f.action
   pub bytes : bs ≡ f.root ∷ (box ++ last)
@@ -61,5 +56,5 @@ filter_kind =
       placed = λ p f. filter_place p.floored (length p.table.rows) (length p.table.filters);
       content = λ t f. filter_content (parents_of t) f;
       judged = λ f. a_root f.root ∷ map a_range f.selector;
-      grown = λ f p. record { table = with_filter f p.table; floored = p.floored; form = p.form };
+      grown = λ f p. record { table = with_filter f p.table; floored = p.floored };
     }

@@ -28,5 +28,5 @@ floor_kind =
       placed = λ p c. floor_place (length p.table.caps) p.floored;
       content = λ t c. [];
       judged = λ c. [];
-      grown = λ c p. record { table = with_floor c p.table; floored = 1; form = p.form };
+      grown = λ c p. record { table = with_floor c p.table; floored = 1 };
     }

@@ -1,5 +1,4 @@
 -- Document 01, "The table text": the frames, a file for each kind. The bytes here are those of a line after its kind byte.
-pub mod Fields
 pub mod Refusals
 pub mod Faults
 pub mod Progress

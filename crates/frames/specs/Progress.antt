@@ -5,22 +5,20 @@ use Rattle.base.specs.Checks.{Check}
 use Rattle.base.specs.Truths.{pick}
 use Rattle.policy.specs.Model.{Table, lines_before}
 use Rattle.policy.specs.Views.{no_table}
-use Rattle.frames.specs.Fields.{RowForm, kind05}
 use Rattle.frames.specs.Refusals.{wrong_form, out_of_sequence}
 use Rattle.frames.specs.Faults.{Claim}
 
--- The table so far, 1 once the floor has been read, else 0, and the form of the rows, kind 05 while there are none.
+-- The table so far, and 1 once the floor has been read, else 0.
 pub record Progress : Type 0 where
   pub table : Table
   pub floored : ℕ
-  pub form : RowForm
 
 abbrev pub nothing : Progress
-nothing = record { table = no_table; floored = 0; form = kind05 }
+nothing = record { table = no_table; floored = 0 }
 
--- A whole table has been read, with rows of this form.
-abbrev pub all_read : Table → RowForm → Progress
-all_read t f = record { table = t; floored = 1; form = f }
+-- A whole table has been read.
+abbrev pub all_read : Table → Progress
+all_read t = record { table = t; floored = 1 }
 
 -- How many lines have been read: those before the rows, and the rows'.
 abbrev pub lines_read : Progress → ℕ

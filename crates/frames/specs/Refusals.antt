@@ -53,7 +53,3 @@ not_joinable = 11
 -- Document 02, [5]: "when the side is above 1"
 abbrev pub no_such_side : ℕ
 no_such_side = 12
-
--- Document 02, [9]: "when a row on the way back has an address bound outside the mapped block"
-abbrev pub outside_block : ℕ
-outside_block = 13

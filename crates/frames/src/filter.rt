@@ -1,4 +1,4 @@
-// The frame of a filter: root, box, whose addresses are short, and its action if it is said.
+// The frame of a filter: root, box, and its action if it is said.
 ghost use Rattle.std.specs.Prelude.{◌≡◌, ◌*◌, ◌≤◌, length, take};
 ghost use Rattle.base.specs.Checks.{refusal};
 ghost use Rattle.hexlines.specs.Lines.{bytes_of};
@@ -6,7 +6,7 @@ ghost use Rattle.policy.specs.Views.{filter_of};
 ghost use Rattle.frames.specs.Numbers.{Lent};
 ghost use Rattle.frames.specs.Filters.{action_place, filter_length, filter_from, filter_place, filter_content};
 
-use crate::widths::{PORT, PROTOCOL, SHORT_ADDRESS};
+use crate::widths::{ADDRESS, PORT, PROTOCOL};
 use crate::{numbers, parts, refusals};
 use policy::limits::{FILTERS, PASSING};
 use policy::row::Filter;
@@ -14,7 +14,7 @@ use policy::table::PerEntity;
 use relations::selector;
 
 // The place of the action, after the root, and low and high of each field of the box.
-const ACTION: usize = 1 + 4 * SHORT_ADDRESS + 4 * PORT + 2 * PROTOCOL;
+const ACTION: usize = 1 + 4 * ADDRESS + 4 * PORT + 2 * PROTOCOL;
 
 // Whether the part has a filter's length, without an action or with one that there is.
 pub fn has_length(part: &[u8]) -> bool
@@ -38,7 +38,7 @@ pub fn read(part: &[u8]) -> Filter
 {
     Filter {
         root: hexlines::u8_at(part, 0),
-        selector: parts::selector(part, 1, false),
+        selector: parts::selector(part, 1, ADDRESS),
         action: parts::byte_or_zero(part, ACTION),
     }
 }

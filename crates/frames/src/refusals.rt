@@ -27,8 +27,6 @@ pub const NOT_JOINABLE: u8 = 11;
 
 pub const NO_SUCH_SIDE: u8 = 12;
 
-pub const OUTSIDE_BLOCK: u8 = 13;
-
 // The number that refuses what breaks this condition; if it holds, that of the others.
 pub fn or_else(holds: bool, number: u8, others: u8) -> u8
     ensures { result ≡ pick holds others number }

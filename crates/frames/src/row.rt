@@ -1,5 +1,5 @@
-// The frame of a row: holder, source, destination, technology, coefficients, box, the number of gateways, the gateways. The
-// addresses of the box are long, in rows of kind 06, or short, in those of kind 05.
+// The frame of a row: holder, source, destination, technology, coefficients, box, the number of gateways, the gateways. An
+// address of the box has `address` bytes.
 ghost use Rattle.std.specs.Prelude.{◌≡◌, true, ◌∷◌, ◌+◌, ◌*◌, ◌≤◌, length, take, drop};
 ghost use Rattle.std.proofs.lemmas.List.Edits.{sets};
 ghost use Rattle.base.specs.Checks.{refusal};
@@ -7,11 +7,11 @@ ghost use Rattle.base.specs.Outputs.{Writes};
 ghost use Rattle.hexlines.specs.Lines.{bytes_of};
 ghost use Rattle.policy.specs.Limits.{most_gateways};
 ghost use Rattle.policy.specs.Views.{coefficients_of, row_of};
-ghost use Rattle.frames.specs.Fields.{same_form, row_byte, box_of, form_of};
+ghost use Rattle.frames.specs.Parts.{most_width, box_of};
 ghost use Rattle.frames.specs.Numbers.{Lent};
 ghost use Rattle.frames.specs.Rows.{count_place, row_length, row_frame, bytes_of_row, line_of_row, row_place, row_numbers, null_rule, row_content};
 
-use crate::widths::{LONG_ADDRESS, PORT, PROTOCOL};
+use crate::widths::{MOST_WIDTH, PORT, PROTOCOL};
 use crate::{numbers, parts, refusals};
 use base::Written;
 use policy::limits::{GATEWAYS, ROWS, TECHNOLOGIES};
@@ -24,50 +24,36 @@ const COEFFICIENTS: usize = 4;
 
 const BOX: usize = 7;
 
-// The kind bytes of rows.
-const SHORT_KIND: u8 = 5;
-
-const LONG_KIND: u8 = 6;
+// The kind byte of a row whose addresses are of four bytes.
+pub const KIND: u8 = 5;
 
 // The most bytes of a row: its kind byte, what stands before the box, the box, the number of gateways, the gateways.
-const ROW_BYTES: usize = 1 + BOX + 4 * LONG_ADDRESS + 4 * PORT + 2 * PROTOCOL + 1 + GATEWAYS;
-
-// The kind byte of a row.
-fn kind(long: bool) -> u8
-    ensures { result ≡ row_byte (form_of long) }
-{
-    if long { LONG_KIND } else { SHORT_KIND }
-}
-
-// Whether two rows are of one kind.
-pub fn alike(long: bool, other: bool) -> bool
-    ensures { result ≡ same_form (form_of long) (form_of other) }
-{
-    if long { other } else { !other }
-}
+const ROW_BYTES: usize = 1 + BOX + 4 * MOST_WIDTH + 4 * PORT + 2 * PROTOCOL + 1 + GATEWAYS;
 
 // The place of the number of gateways.
-fn count_place(long: bool) -> usize
-    ensures { (result ≡ count_place (box_of (form_of long))) × (result ≤ 81) }
+fn count_place(address: usize) -> usize
+    requires { address ≤ most_width }
+    ensures { result ≡ count_place (box_of address) }
 {
-    BOX + parts::box_bytes(long)
+    BOX + parts::box_bytes(address)
 }
 
 // Whether the part has a row's length, and no more than eight gateways.
-pub fn has_length(part: &[u8], long: bool) -> bool
-    ensures { result ≡ row_length (box_of (form_of long)) (bytes_of part.now) }
+pub fn has_length(part: &[u8], address: usize) -> bool
+    requires { address ≤ most_width }
+    ensures { result ≡ row_length (box_of address) (bytes_of part.now) }
 {
     let bytes = part.len() / 2;
-    let at = count_place(long);
+    let at = count_place(address);
     let n = parts::byte_or_zero(part, at) as usize;
     (at < bytes) & ((n <= GATEWAYS) & (bytes == at + 1 + n))
 }
 
-// Whether the sequence can go on with a row, after `rows` rows, of whose kind it is or not; `floored` is 1 if the floor has been read, else 0.
-pub fn has_place(floored: u8, rows: usize, like: bool) -> bool
-    ensures { result ≡ row_place floored rows like }
+// Whether the sequence can go on with a row, after `rows` rows; `floored` is 1 if the floor has been read, else 0.
+pub fn has_place(floored: u8, rows: usize) -> bool
+    ensures { result ≡ row_place floored rows }
 {
-    (floored == 1) & ((rows < ROWS) & ((rows == 0) | like))
+    (floored == 1) & (rows < ROWS)
 }
 
 // The gateways, n bytes from place at on, and zeros.
@@ -85,11 +71,11 @@ fn gateways(part: &[u8], at: usize, n: usize) -> Gateways
 }
 
 // The row that the part says.
-pub fn read(part: &[u8], long: bool) -> Row
-    requires { row_length (box_of (form_of long)) (bytes_of part.now) ≡ true }
-    ensures { row_of result ≡ row_frame (box_of (form_of long)) (bytes_of part.now) }
+pub fn read(part: &[u8], address: usize) -> Row
+    requires { (row_length (box_of address) (bytes_of part.now) ≡ true) × (address ≤ most_width) }
+    ensures { row_of result ≡ row_frame (box_of address) (bytes_of part.now) }
 {
-    let at = count_place(long);
+    let at = count_place(address);
     let count = hexlines::u8_at(part, at);
     let g = gateways(part, at + 1, count as usize);
     Row {
@@ -98,7 +84,7 @@ pub fn read(part: &[u8], long: bool) -> Row
         destination: hexlines::u8_at(part, 2),
         technology: hexlines::u8_at(part, 3),
         coefficients: parts::coefficients(part, COEFFICIENTS),
-        selector: parts::selector(part, BOX, long),
+        selector: parts::selector(part, BOX, address),
         count,
         gateways: g,
     }
@@ -140,17 +126,17 @@ pub fn broken(parents: &PerEntity, count: usize, r: Row) -> u8
 }
 
 // Writes the row's frame, the kind byte first, into bytes from its start. Returns how many bytes it has. The rest of bytes is unchanged.
-fn write(r: Row, long: bool, bytes: &mut [u8]) -> usize
-    requires { count_place (box_of (form_of long)) + 2 + most_gateways ≤ length bytes.old }
-    ensures stores { bytes.new ≡ sets bytes.old 0 (row_byte (form_of long) ∷ bytes_of_row (box_of (form_of long)) (row_of r)) }
-    ensures counts { result ≡ length (row_byte (form_of long) ∷ bytes_of_row (box_of (form_of long)) (row_of r)) }
+fn write(r: Row, kind: u8, address: usize, bytes: &mut [u8]) -> usize
+    requires { (address ≤ most_width) × (count_place (box_of address) + 2 + most_gateways ≤ length bytes.old) }
+    ensures stores { bytes.new ≡ sets bytes.old 0 (kind ∷ bytes_of_row (box_of address) (row_of r)) }
+    ensures counts { result ≡ length (kind ∷ bytes_of_row (box_of address) (row_of r)) }
 {
-    let at = 1 + count_place(long);
+    let at = 1 + count_place(address);
     let n = r.gateway_count();
     let g = r.gateways;
     parts::put_bytes(
         &[
-            kind(long),
+            kind,
             r.holder,
             r.source,
             r.destination,
@@ -162,37 +148,22 @@ fn write(r: Row, long: bool, bytes: &mut [u8]) -> usize
         bytes,
         0,
     );
-    parts::put_selector(r.selector, long, bytes, 1 + BOX);
+    parts::put_selector(r.selector, address, bytes, 1 + BOX);
     parts::put_bytes(&[n as u8], bytes, at);
     parts::put_bytes(&g[..n], bytes, at + 1);
     at + 1 + n
 }
 
-// The length of the row's line, without line feed.
-pub fn line_length(r: Row, long: bool) -> usize
-    ensures { (result ≡ length (line_of_row (form_of long) (row_of r))) × (result ≤ 182) }
-{
-    2 * (2 + count_place(long) + r.gateway_count())
-}
-
-// Writes the row's line, in capitals and without line feed, into out from place at on. Returns its length. The rest of out is unchanged.
-pub fn store_line(r: Row, long: bool, out: &mut [u8], at: usize) -> usize
-    requires { at + length (line_of_row (form_of long) (row_of r)) ≤ length out.old }
-    ensures stores { out.new ≡ sets out.old at (line_of_row (form_of long) (row_of r)) }
-    ensures counts { result ≡ length (line_of_row (form_of long) (row_of r)) }
+// Writes the row's line, in capitals and without line feed, to the start of out, if there is room for it. The rest of out is unchanged.
+pub fn put_line(r: Row, kind: u8, address: usize, out: &mut [u8]) -> Written
+    requires { address ≤ most_width }
+    ensures { Writes (line_of_row kind (box_of address) (row_of r)) out.old out.new result }
 {
     let mut bytes = [0u8; ROW_BYTES];
-    let n = write(r, long, &mut bytes);
-    hexlines::put(&bytes[..n], out, at);
-    2 * n
-}
-
-// Writes the row's line, in capitals and without line feed, to the start of out, if there is room for it. The rest of out is unchanged.
-pub fn put_line(r: Row, long: bool, out: &mut [u8]) -> Written
-    ensures { Writes (line_of_row (form_of long) (row_of r)) out.old out.new result }
-{
-    if out.len() < line_length(r, long) {
+    let n = write(r, kind, address, &mut bytes);
+    if out.len() < 2 * n {
         return Written::Short;
     }
-    Written::Count(store_line(r, long, out, 0))
+    hexlines::put(&bytes[..n], out, 0);
+    Written::Count(2 * n)
 }

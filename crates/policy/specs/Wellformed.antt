@@ -50,9 +50,9 @@ Fits [] (r ∷ s) = ⊥
 Fits (w ∷ ws) [] = ⊥
 Fits (w ∷ ws) (r ∷ s) = (r.high < 256 ^ w) × Fits ws s
 
--- How large the numbers of a table's ranges can be, in bytes: two addresses, two ports, the protocol. "Packets carry 128-bit addresses throughout."
+-- How large the numbers of a table's ranges can be, in bytes: two addresses, two ports, the protocol.
 abbrev pub range_widths : List ℕ
-range_widths = 16 ∷ 16 ∷ 2 ∷ 2 ∷ 1 ∷ []
+range_widths = 4 ∷ 4 ∷ 2 ∷ 2 ∷ 1 ∷ []
 
 pub record SelectorRule (s : Selector) : Type 0 where
   pub ordered : Ordered s

@@ -10,7 +10,7 @@ use Rattle.policy.specs.Model.{Coefficients, Entity, Range, Selector, Filter, Ro
 use Rattle.policy.specs.Wellformed.{RootRule, OtherRule, IsEntity, IsRoot, FilterRule, RowRule}
 use Rattle.base.specs.Truths.{Decides}
 use Rattle.base.specs.Answers.{returned, refused_by}
-use Rattle.frames.specs.Parts.{boxWidths}
+use Rattle.frames.specs.Parts.{box_widths}
 use Rattle.frames.specs.Kinds.{of_entity, of_cap, of_floor, of_filter, of_row, describe}
 use Rattle.reader.specs.Lines.{lines_of, rest_of, text_of}
 use Rattle.reader.specs.Frames.{Frame, a_frame, frame_of}
@@ -140,7 +140,7 @@ pub record Reading : Type 0 where
       ∷ a_frame of_floor floor
       ∷ (map (a_frame of_filter) filters ++ map (a_frame of_row) rows))
   -- "source address (4 bytes each), destination address (4), source port (2), destination port (2), protocol (1)"
-  pub box : boxWidths ≡ 4 ∷ 4 ∷ 2 ∷ 2 ∷ 1 ∷ []
+  pub box : box_widths ≡ 4 ∷ 4 ∷ 2 ∷ 2 ∷ 1 ∷ []
   -- request [7]: "0 to drop and 1 to pass"
   pub actions : (dropping ≡ 0) × (passing ≡ 1)
   -- "A root (a network node) has parent FF and layer 0."

@@ -6,7 +6,6 @@ use mathlib.Core.List.{List, [], ◌∷◌, ◌++◌, Memᴰ}
 use Rattle.hexlines.specs.Lines.{NoLine, bytes_of}
 use Rattle.policy.specs.Model.{Coefficients, Table}
 use Rattle.policy.specs.Wellformed.{Counts}
-use Rattle.frames.specs.Fields.{RowForm}
 use Rattle.frames.specs.Faults.{Claim, ContentFault}
 use Rattle.frames.specs.Progress.{Progress, nothing}
 use Rattle.frames.specs.Kinds.{of_floor, describe}
@@ -16,13 +15,11 @@ use Rattle.reader.specs.Forms.{HasForm}
 use Rattle.reader.specs.States.{grown}
 use Rattle.reader.specs.Rules.{frames_of}
 
--- The sequence can go on after these frames: they, and some further ones, are those of a table with as many of each as there may be, whose rows are
--- all 05, or all 06.
+-- The sequence can go on after these frames: they, and some further ones, are those of a table with as many of each as there may be.
 pub record Begins (fs : List Frame) : Type 0 where
   pub further : List Frame
   pub table : Table
-  pub form : RowForm
-  pub sequence : fs ++ further ≡ frames_of table form
+  pub sequence : fs ++ further ≡ frames_of table
   pub counts : Counts table
 
 -- What is read with these frames after p.

@@ -1,4 +1,4 @@
--- Document 01, "The table text", and document 02, [7], on filters, and [9], on rows: the form of a frame, and what the bytes of a line say. That `frame_of` reads just this is a law.
+-- Document 01, "The table text", and document 02, [7], on filters: the form of a frame, and what the bytes of a line say. That `frame_of` reads just this is a law.
 -- Assumes nothing.
 use Rattle.std.specs.Prelude.{ℕ, ◌+◌, ◌≤◌, ◌≡◌, List, [], ◌∷◌, length, get_or}
 use Rattle.frames.specs.Kinds.{describe}
@@ -18,8 +18,6 @@ pub data HasForm (bs : List ℕ) : Type 0 where
   action_form : get_or bs 0 0 ≡ 4 → length bs ≡ 29 → get_or bs 28 0 ≤ 1 → HasForm bs
   -- "05 row, 35 + n bytes", "n (0 to 8)"
   row_form : (n : ℕ) → get_or bs 0 0 ≡ 5 → get_or bs 34 0 ≡ n → n ≤ 8 → length bs ≡ 35 + n → HasForm bs
-  -- "kind 06: as 05, but each address bound is 16 bytes, so its length is 83 + n"
-  long_row_form : (n : ℕ) → get_or bs 0 0 ≡ 6 → get_or bs 82 0 ≡ n → n ≤ 8 → length bs ≡ 83 + n → HasForm bs
 
 -- The bytes say the frame: "The first byte is the frame's kind", and the others say what it says. Bytes without the form of a frame say none.
 abbrev pub SaysFrame : List ℕ → Frame → Type 0

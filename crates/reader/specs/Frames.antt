@@ -3,7 +3,6 @@
 use Rattle.std.specs.Prelude.{ℕ, List, [], ◌∷◌, eqb}
 use Rattle.base.specs.Truths.{pick}
 use Rattle.policy.specs.Model.{Row}
-use Rattle.frames.specs.Fields.{RowForm}
 use Rattle.frames.specs.Kinds.{FrameName, of_row, Value, describe, frame_names}
 
 pub data Frame : Type 0 where
@@ -12,8 +11,8 @@ pub data Frame : Type 0 where
   -- "unknown kind, length not the kind's, n above 8", "an action above 1"
   no_frame : Frame
 
-abbrev pub a_row : RowForm → Row → Frame
-a_row f r = a_frame (of_row f) r
+abbrev pub a_row : Row → Frame
+a_row r = a_frame of_row r
 
 -- The frame of this kind, from the bytes after the kind byte.
 abbrev pub frame_in : FrameName → List ℕ → Frame

@@ -1,35 +1,23 @@
 -- Document 01, "The table text" and the table of refusals: the reader's states, what each line does, and a whole text.
 -- Assumes nothing.
 use Rattle.std.specs.Prelude.{ℕ, suc, false, List, [], ◌∷◌, eqb, length}
-use Rattle.base.specs.Answers.{Answer, returned, refused_by, told}
+use Rattle.base.specs.Answers.{Answer, returned, refused_by}
 use Rattle.base.specs.Checks.{Check, or_else, refusal}
 use Rattle.base.specs.Truths.{pick}
 use Rattle.hexlines.specs.Lines.{is_line, bytes_of}
-use Rattle.policy.specs.Model.{Row, Table}
-use Rattle.frames.specs.Fields.{RowForm, kind05}
+use Rattle.policy.specs.Model.{Table}
 use Rattle.frames.specs.Refusals.{no_line, wrong_form, out_of_sequence}
 use Rattle.frames.specs.Progress.{Progress, nothing}
 use Rattle.frames.specs.Kinds.{describe}
 use Rattle.reader.specs.Lines.{lines_of, rest_of}
 use Rattle.reader.specs.Frames.{Frame, a_frame, no_frame, frame_of}
 
--- What was read of a text that is accepted. Calls are defined on it, and all but Join, Prefixes and the two moves on its table alone.
+-- What was read of a text that is accepted. Calls are defined on it.
 pub record Parsed : Type 0 where
   pub table : Table
-  -- the form of the table's rows, in which the text has them
-  pub form : RowForm
 
--- The form of some rows, all of the form f. Of no rows it is kind 05.
-abbrev pub form_among : List Row → RowForm → RowForm
-form_among [] f = kind05
-form_among (r ∷ rs) f = f
-
-abbrev pub table_read : Table → RowForm → Parsed
-table_read t f = record { table = t; form = form_among t.rows f }
-
--- The table alone, or the refusal.
-abbrev pub table_in : Answer Parsed → Answer Table
-table_in x = told (λ r. r.table) x
+abbrev pub table_read : Table → Parsed
+table_read t = record { table = t }
 
 -- After n lines, or refused at a line.
 pub data State : Type 0 where
@@ -63,7 +51,7 @@ run s (line ∷ lines) = run (step s line) lines
 -- At the text's end. "last line without line feed": 1. "a text ending before the floor gives last line + 1": 3.
 unfoldable pub finish : State → List ℕ → Answer Parsed
 finish (reading n p) rest =
-    pick (eqb (length rest) 0) (pick (eqb p.floored 1) (returned (table_read p.table p.form)) (refused_by out_of_sequence (suc n))) (refused_by no_line (suc n))
+    pick (eqb (length rest) 0) (pick (eqb p.floored 1) (returned (table_read p.table)) (refused_by out_of_sequence (suc n))) (refused_by no_line (suc n))
 finish (refused number line) rest = refused_by number line
 
 unfoldable pub parse : List ℕ → Answer Parsed

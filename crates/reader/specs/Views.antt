@@ -1,6 +1,6 @@
 -- What the code's state stands for, what becomes of it by a line and by a text, and what the reader that a text comes to stands for.
 -- Assumes nothing.
-use Rattle.std.specs.Prelude.{ℕ, suc, ◌≤◌, false, ◌≡◌, List, map, eqb, length, take}
+use Rattle.std.specs.Prelude.{ℕ, suc, ◌≤◌, ◌≡◌, List, map, eqb, length, take}
 use Rattle.base.specs.Answers.{Answer, returned, refused_by}
 use Rattle.base.specs.Lists.{tabulate}
 use Rattle.base.specs.Truths.{pick}
@@ -8,7 +8,6 @@ use Rattle.policy.specs.Limits.{most_entities, technologies, most_filters, most_
 use Rattle.policy.specs.Model.{Table, no_parent}
 use Rattle.policy.specs.Views.{coefficients_of, parent_in, entity_in, table_of, Held, Stands}
 use Rattle.policy.specs.declared.table.Table.{Table as TableStruct}
-use Rattle.frames.specs.Fields.{RowForm, form_of}
 use Rattle.frames.specs.Progress.{Progress, all_read, lines_read}
 use Rattle.frames.specs.Kinds.{FrameName}
 use Rattle.reader.specs.Frames.{frame_in}
@@ -26,8 +25,6 @@ pub record Ready (r : StateStruct) : Type 0 where
   pub floored : r.floored ≤ 1
   pub filters : r.filters ≤ most_filters
   pub rows : r.rows ≤ most_rows
-  -- it is short while there are no rows
-  pub first : r.rows ≡ 0 → r.long ≡ false
   pub unused : (e : ℕ) → r.entities ≤ e → parent_in r.parents e ≡ no_parent
 
 -- It has what has been read, but of filters and rows their counts alone.
@@ -38,7 +35,6 @@ pub record Has (r : StateStruct) (p : Progress) : Type 0 where
   pub floored : r.floored ≡ p.floored
   pub filters : r.filters ≡ length p.table.filters
   pub rows : r.rows ≡ length p.table.rows
-  pub form : form_of r.long ≡ p.form
 
 -- The struct is refused by this number, at this line.
 pub record IsRefused (r : StateStruct) (number line : ℕ) : Type 0 where
@@ -75,23 +71,22 @@ pub record Moves (r : StateStruct) (step : State → State) (q : StateStruct) : 
 
 -- The struct stands for what a text is, but for the filters and rows of its table.
 abbrev pub Ends : StateStruct → Answer Parsed → Type 0
-Ends r (returned q) = (r.number ≡ 0) × Has r (all_read q.table q.form)
+Ends r (returned q) = (r.number ≡ 0) × Has r (all_read q.table)
 Ends r (refused_by number line) = IsRefused r number line
 
 -- The text says a table, and keeps the rules; the struct has it, but for its filters and rows.
 pub record Fillable (text : List ℕ) (r : StateStruct) : Type 0 where
   pub table : Table
-  pub form : RowForm
-  pub keeps : KeepsRules text table form
+  pub keeps : KeepsRules text table
   pub ready : Ready r
-  pub has : Has r (all_read table form)
+  pub has : Has r (all_read table)
 
 -- The table is that of the text.
 abbrev pub Filled : List ℕ → StateStruct → TableStruct → Type 0
 Filled text r t = (a : Fillable text r) → Stands t a.table
 
 abbrev pub parsed_of : Reader → Answer Parsed
-parsed_of r = pick (eqb r.number 0) (returned (table_read (table_of r.table) (form_of r.long))) (refused_by r.number r.line)
+parsed_of r = pick (eqb r.number 0) (returned (table_read (table_of r.table))) (refused_by r.number r.line)
 
 -- The reader r stands for what a text is.
 pub record Parses (r : Reader) (x : Answer Parsed) : Type 0 where

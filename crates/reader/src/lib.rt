@@ -6,18 +6,17 @@ ghost use Rattle.reader.specs.Views.{Ready, Ends, Fillable, Filled, Parses};
 pub mod lines;
 pub mod state;
 
+use frames::widths::ADDRESS;
 use frames::{filter, refusals, row};
 use policy::limits::{FILTERS, HEAD_COUNT, ROWS, SELECTORS, WORD_COUNT};
 use policy::table;
 use policy::table::Table;
 use state::State;
 
-// What reading a text comes to: its table, and whether its rows are long, of kind 06; or the number and the line of its refusal; the number is 0 where there
-// is none.
+// What reading a text comes to: its table, or the number and the line of its refusal; the number is 0 where there is none.
 #[derive(Drop)]
 pub struct Reader {
     pub table: Table,
-    pub long: bool,
     pub number: u8,
     pub line: u8,
 }
@@ -67,7 +66,7 @@ fn fill(text: &[u8], s: State) -> Table
     let mut i = 0;
     while i < s.rows {
         let end = lines::line_end(text, start);
-        let r = row::read(&text[start + 2..end], s.long);
+        let r = row::read(&text[start + 2..end], ADDRESS);
         table::put_row(&mut heads, &mut bounds, i, r);
         start = end + 1;
         i += 1;
@@ -102,14 +101,12 @@ pub fn read(text: &[u8]) -> Reader
     if s.number != 0 {
         return Reader {
             table: Table::new(),
-            long: false,
             number: s.number,
             line: s.line,
         };
     }
     Reader {
         table: fill(text, s),
-        long: s.long,
         number: 0,
         line: 0,
     }

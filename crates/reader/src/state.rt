@@ -1,19 +1,19 @@
 // The reader's state, a struct by value: what judging the next line needs. A method takes self and one line and hands back the next state.
 ghost use Rattle.std.specs.Prelude.{◌≡◌};
 ghost use Rattle.hexlines.specs.Lines.{bytes_of};
-ghost use Rattle.frames.specs.Fields.{form_of};
 ghost use Rattle.frames.specs.Progress.{nothing};
 ghost use Rattle.frames.specs.Kinds.{of_entity, of_cap, of_floor, of_filter, of_row};
 ghost use Rattle.reader.specs.States.{reading, step};
 ghost use Rattle.reader.specs.Views.{Ready, Reads, Moves, Refuses, Takes};
 
+use frames::widths::ADDRESS;
 use frames::{cap, entity, filter, floor, refusals, row};
 use policy::limits::{ENTITIES, NO_PARENT, TECHNOLOGIES};
 use policy::row::Coefficients;
 use policy::table;
 use policy::table::{Caps, PerEntity};
 
-// Of a table so far: its entities, caps and floor, how many filters and rows there are, but not what they say, and the rows' kind.
+// Of a table so far: its entities, caps and floor, and how many filters and rows there are, but not what they say.
 #[derive(Drop)]
 pub struct State {
     pub entities: usize,
@@ -27,8 +27,6 @@ pub struct State {
     pub floored: u8,
     pub filters: usize,
     pub rows: usize,
-    // whether the rows are long; they are not while there are none
-    pub long: bool,
     // the number of the refusal, or 0, and its line
     pub number: u8,
     pub line: u8,
@@ -55,7 +53,6 @@ impl State {
             floored: 0,
             filters: 0,
             rows: 0,
-            long: false,
             number: 0,
             line: 0,
         }
@@ -154,23 +151,22 @@ impl State {
     }
 
     // A row's line, after its kind byte: with one row more, or refused.
-    fn take_row(mut self, part: &[u8], long: bool) -> State
+    fn take_row(mut self, part: &[u8]) -> State
         requires { Ready self × (self.number ≡ 0) }
-        ensures { Takes self (of_row (form_of long)) (bytes_of part.now) result }
+        ensures { Takes self of_row (bytes_of part.now) result }
     {
         let n = refusals::misfit(
-            row::has_length(part, long),
-            row::has_place(self.floored, self.rows, row::alike(self.long, long)),
+            row::has_length(part, ADDRESS),
+            row::has_place(self.floored, self.rows),
         );
         if n != 0 {
             return self.refuse(n);
         }
-        let m = row::broken(&self.parents, self.entities, row::read(part, long));
+        let m = row::broken(&self.parents, self.entities, row::read(part, ADDRESS));
         if m != 0 {
             return self.refuse(m);
         }
         self.rows += 1;
-        self.long = long;
         self
     }
 
@@ -191,8 +187,7 @@ impl State {
             2 => self.take_cap(rest),
             3 => self.take_floor(rest),
             4 => self.take_filter(rest),
-            5 => self.take_row(rest, false),
-            6 => self.take_row(rest, true),
+            5 => self.take_row(rest),
             _ => self.refuse(refusals::WRONG_FORM),
         }
     }

@@ -21,7 +21,7 @@ use Rattle.relations.specs.Entities.{TwoEntities}
 use Rattle.relations.proofs.Laws.Tables.{lent_parents}
 use Rattle.joining.specs.Joining.{Joinable, joinable, joined}
 use Rattle.joining.proofs.Laws.Joining.{joinable_decides}
-use Rattle.frames.specs.Parts.{boxWidths}
+use Rattle.frames.specs.Parts.{box_widths}
 use Rattle.frames.specs.Rows.{line_of_row}
 use Rattle.analyser.specs.Calls.{joined_line, join_of, join_written}
 use Rattle.analyser.specs.Views.{room_answer}
@@ -138,9 +138,9 @@ module _ (c : tie.After-put-line) where
   abbrev f : tie.Else2
   f = k (rows known)
 
-  line : line_of_row 5 boxWidths (row_of c.before.before.joined.result) ≡ joined_line (i f) (j f) (table f)
+  line : line_of_row 5 box_widths (row_of c.before.before.joined.result) ≡ joined_line (i f) (j f) (table f)
   line =
-      ap (line_of_row 5 boxWidths)
+      ap (line_of_row 5 box_widths)
       (c.before.before.joined.ensures ∙ (λ x. joined (parents f x) (first_row (rows known) x) (second_row (rows known) x)))
 
   done : (room_answer c.put-line.result ≡ join_of (parse (s (e f)).args.text.now) (i f) (j f) (s (e f)).args.out.now)

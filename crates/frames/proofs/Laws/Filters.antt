@@ -23,17 +23,15 @@ use Rattle.base.proofs.Laws.Decides.{decides_holds, decides_and, decides_or, dec
 use Rattle.policy.specs.Limits.{most_filters}
 use Rattle.hexlines.specs.Lines.{bytes_of}
 use Rattle.policy.specs.Model.{Selector, Filter, Table, passing, no_filter, parents_of}
-use Rattle.policy.specs.Wellformed.{Ordered, FilterRule}
+use Rattle.policy.specs.Wellformed.{Ordered, Fits, FilterRule}
 use Rattle.relations.specs.Selectors.{inhabited}
 use Rattle.relations.proofs.Laws.Selectors.{ordered_inhabited, inhabited_decides, inhabited_ordered}
 use Rattle.frames.specs.Refusals.{bad_number, empty_range}
 use Rattle.frames.specs.Progress.{Progress}
 use Rattle.frames.specs.Numbers.{is_root}
-use Rattle.frames.specs.Fields.{kind05, InForms}
-use Rattle.frames.specs.Filters.{filter_box, action_place, filter_length, filter_from, SaysAction, SaysFilter, filter_content, filter_kind}
-use Rattle.frames.specs.Parts.{selector_from, box_bytes}
-use Rattle.frames.proofs.Laws.Fields.{in_forms_fit}
-use Rattle.frames.proofs.Laws.Parts.{selector_in_forms, box_said_lem, box_length, box_read}
+use Rattle.frames.specs.Filters.{action_place, filter_length, filter_from, SaysAction, SaysFilter, filter_content, filter_kind}
+use Rattle.frames.specs.Parts.{selector_from, box_bytes, box_widths}
+use Rattle.frames.proofs.Laws.Parts.{selector_fits, box_said_lem, box_length, box_read}
 use Rattle.frames.proofs.Laws.Numbers.{is_root_decides}
 use Rattle.base.proofs.Laws.Each.{each_more}
 use Rattle.policy.proofs.Laws.Changed.{entity_changed, filter_changed}
@@ -42,7 +40,7 @@ use Rattle.frames.proofs.Laws.Growing.{Sequenced, after_floor, Growing, whole, L
 
 -- What the numbers of a filter keep because they are bytes of a line with a filter's length.
 pub record FilterInRange (f : Filter) : Type 0 where
-  pub selector : InForms filter_box f.selector
+  pub selector : Fits box_widths f.selector
   pub action : f.action ≤ passing
 
 filter_kept : (t : Table) (f : Filter) → FilterInRange f → refusal (filter_content (parents_of t) f) ≡ 0 → FilterRule t f
@@ -52,7 +50,7 @@ filter_kept t f range h =
     let selector = refusal_none some empty_range [] (λ z. omega arith) root.1 in
     record {
       root = (is_root_decides t f.root).yes root.0;
-      selector = record { ordered = inhabited_ordered f.selector selector.0; fits = in_forms_fit kind05 f.selector range.selector };
+      selector = record { ordered = inhabited_ordered f.selector selector.0; fits = range.selector };
       action = range.action;
     }
 
@@ -119,13 +117,13 @@ last_read (b ∷ c ∷ l) action h = absurd h
 filter_said : (bs : List ℕ) → filter_length bs ≡ true → SaysFilter bs (filter_from bs)
 filter_said [] h = absurd (false≢true h)
 filter_said (b ∷ bs) h =
-    let n = box_bytes filter_box in
+    let n = box_bytes box_widths in
     let l = (filter_length_decides (b ∷ bs)).yes h in
     let few : length (drop n bs) ≤ 1 = simp length-drop (elim l.0 [ inl e ↦ omega arith | inr e ↦ omega arith ]) in
     let at : get_or (drop n bs) 0 0 ≡ get_or bs n 0 = get_or-drop n bs 0 0 in
     record {
       box = take n bs;
-      selector = box_said_lem 1 filter_box (b ∷ bs) (filter_has_box (b ∷ bs) h);
+      selector = box_said_lem 1 box_widths (b ∷ bs) (filter_has_box (b ∷ bs) h);
       last = drop n bs;
       action = subst (SaysAction (drop n bs)) at (last_said (drop n bs) few (rw at l.1));
       bytes = ap (λ (r : List ℕ). b ∷ r) (sym (take-append-drop n bs));
@@ -133,10 +131,10 @@ filter_said (b ∷ bs) h =
 
 filter_read : (bs : List ℕ) (f : Filter) → SaysFilter bs f → (filter_length bs ≡ true) × (filter_from bs ≡ f)
 filter_read bs f s =
-    let long = box_length filter_box s.box f.selector s.selector in
+    let long = box_length box_widths s.box f.selector s.selector in
     let last = last_read s.last f.action s.action in
-    let selector : selector_from 1 filter_box bs ≡ f.selector =
-    ap (selector_from 1 filter_box) s.bytes ∙ box_read filter_box s.box f.selector (f.root ∷ []) s.last 1 refl s.selector in
+    let selector : selector_from 1 box_widths bs ≡ f.selector =
+    ap (selector_from 1 box_widths) s.bytes ∙ box_read box_widths s.box f.selector (f.root ∷ []) s.last 1 refl s.selector in
     let action : get_or bs action_place 0 ≡ f.action =
     ap (λ (l : List ℕ). get_or l action_place 0) s.bytes
     ∙ ap (λ (n : ℕ). get_or (f.root ∷ (s.box ++ s.last)) (suc n) 0) (sym long ∙ sym (add-zero (length s.box)))
@@ -149,7 +147,7 @@ filter_read bs f s =
     -- it ends with the box or with one byte more
     ends : (length bs ≡ action_place) ⊎ (length bs ≡ action_place + 1)
     ends =
-        let long = box_length filter_box s.box f.selector s.selector in
+        let long = box_length box_widths s.box f.selector s.selector in
         let few = (last_read s.last f.action s.action).0 in
         let size : length bs ≡ action_place + length s.last = ap length s.bytes ∙ simp length-append (omega arith) in
         elim (dec_lt (length s.last) 1) [ yes h ↦ inl (omega arith) | no h ↦ inr (omega arith) ]
@@ -159,7 +157,7 @@ filter_lawful =
     record {
       said = filter_said;
       read = filter_read;
-      in_range = λ l h. record { selector = selector_in_forms 1 filter_box l; action = ((filter_length_decides (bytes_of l)).yes h).1 };
+      in_range = λ l h. record { selector = selector_fits 1 box_widths l; action = ((filter_length_decides (bytes_of l)).yes h).1 };
       numbered = λ t f. omega arith;
       judges = λ t f few. judges_more (tests_root t f.root) (judges_one (tests_ranges t f.selector));
       one_line = λ p f m. simp length-append (omega arith);

@@ -1,25 +1,23 @@
 -- Laws of numbers, the most significant byte first, for any number of bytes:
 --   numberOf-append, numberOf-take: one byte more
---   take-parts, numberOf-parts, field-halves: bytes in two parts, and the number of a field by those of its halves
 --   numberOf-below, field_below, line-field-below: the range of a number, of a field of bytes, of a field of a line
 --   field-one: a field of one byte
 --   bytes-append, bytes-first, bytes_rest: the bytes of two lists one after the other
---   some-power: a power of 256 is not 0
---   length-numberBytes, numberBytes-below, numberOf-rest, numberOf-numberBytes, numberBytes-low: the last bytes of a number, which they say if it is small enough
+--   length-numberBytes, numberBytes-below, numberOf-numberBytes: the bytes of a number, which they say if it is small enough
 --   numberBytes-numberOf: the bytes of the number that some bytes say are those bytes
 -- That each byte of bs is below 256 is said as (i : ℕ) → get_or bs i 0 < 256.
 -- Assumes nothing.
 use mathlib.Core.Path.{◌≡◌, refl, sym, ap, ◌∙◌}
 use mathlib.Core.List.{List, [], ◌∷◌, ◌++◌}
-use Prim.Native.Nat.{ℕ, zero, suc, ◌+◌, ◌*◌, ◌/◌, ◌%◌, ◌^◌, ◌≤◌, ◌<◌}
+use Prim.Native.Nat.{ℕ, zero, suc, ◌+◌, ◌*◌, ◌/◌, ◌%◌, ◌^◌, ◌<◌}
 use native.Mathlib.Omega.{arith}
-use native.Mathlib.Nat.{pow-succ', pow-le-pow_right, lt_of_lt_of_le, mod-one, mod-lt, mod-eq_of_lt, mul_assoc, add_comm, add-mul, add-mul-div_right}
+use native.Mathlib.Nat.{pow-succ', pow-le-pow_right, lt_of_lt_of_le, mod-one, mod-lt, mod-eq_of_lt, mul_assoc, add_comm, add-mul-div_right}
 use native.Mathlib.Decide.{dec_lt}
 use lib.Arith.{digits_lt, digits_div, mod-mul}
 use lib.Dec.{lit<}
 use lib.Pow.{pow-add}
-use lib.Seq.{take-suc, take-nil, drop-drop, get_or-take, get_or-drop}
-use lib.ListN.{length, get_or, take, drop, length-append, length-take, length-drop, get_or-eq_default}
+use lib.Seq.{take-suc, get_or-take, get_or-drop}
+use lib.ListN.{length, get_or, take, drop, length-append, length-take, get_or-eq_default}
 use Rattle.hexlines.specs.Lines.{bytes_of}
 use Rattle.hexlines.specs.Numbers.{number_of, field, number_bytes}
 use Rattle.hexlines.proofs.Laws.Lines.{bytes_of_below}
@@ -32,28 +30,6 @@ number_of_append (c ∷ bs) b =
 
 pub number_of_take : (l : List ℕ) (i : ℕ) → i < length l → number_of (take (suc i) l) ≡ number_of (take i l) * 256 + get_or l i 0
 number_of_take l i h = rw (take-suc l i 0, number_of_append)
-
--- The first m + n of a list, in two parts.
-pub take_parts : (m n : ℕ) (l : List ℕ) → take (m + n) l ≡ take m l ++ take n (drop m l)
-take_parts zero n l = let e : 0 + n ≡ n = omega arith in rw e
-take_parts (suc m) n [] = rw (take-nil n, take-nil (suc m + n))
-take_parts (suc m) n (x ∷ l) = let e : suc m + n ≡ suc (m + n) = omega arith in rw e (ap (λ r. x ∷ r) (take_parts m n l))
-
--- The number of some bytes and some more: that of the first, above the others.
-pub number_of_parts : (bs cs : List ℕ) → number_of (bs ++ cs) ≡ number_of bs * 256 ^ length cs + number_of cs
-number_of_parts [] cs = omega arith
-number_of_parts (b ∷ bs) cs =
-    let e : b * 256 ^ length (bs ++ cs) ≡ b * 256 ^ length bs * 256 ^ length cs =
-    simp (length-append, pow-add) (sym (mul_assoc b (256 ^ length bs) (256 ^ length cs))) in
-    let more = add-mul (b * 256 ^ length bs) (number_of bs) (256 ^ length cs) in
-    omega (arith, number_of_parts bs cs)
-
-pub field_halves : (i w : ℕ) (bs : List ℕ) → i + w + w ≤ length bs → field i w bs * 256 ^ w + field (i + w) w bs ≡ field i (w + w) bs
-field_halves i w bs h =
-    let long : length (take w (drop (i + w) bs)) ≡ w = simp (length-take, length-drop) (omega arith) in
-    sym (ap number_of (take_parts w w (drop i bs) ∙ ap (λ (l : List ℕ). take w (drop i bs) ++ take w l) (drop-drop w i bs))
-    ∙ number_of_parts (take w (drop i bs)) (take w (drop (i + w) bs))
-    ∙ ap (λ (k : ℕ). field i w bs * 256 ^ k + field (i + w) w bs) long)
 
 pub number_of_below : (bs : List ℕ) → ((i : ℕ) → get_or bs i 0 < 256) → number_of bs < 256 ^ length bs
 number_of_below [] h = lit< tt
@@ -109,11 +85,11 @@ number_bytes_below zero n i = lit< tt
 number_bytes_below (suc w) n zero = mod-lt (n / 256 ^ w) (lit< tt)
 number_bytes_below (suc w) n (suc i) = number_bytes_below w n i
 
-pub some_power : (w : ℕ) → 0 < 256 ^ w
+some_power : (w : ℕ) → 0 < 256 ^ w
 some_power w = lt_of_lt_of_le (lit< tt) (pow-le-pow_right (lit< tt) {i = 0} {j = w} (omega arith))
 
 -- They say what is left of the number in `w` bytes.
-pub number_of_rest : (w n : ℕ) → number_of (number_bytes w n) ≡ n % 256 ^ w
+number_of_rest : (w n : ℕ) → number_of (number_bytes w n) ≡ n % 256 ^ w
 number_of_rest zero n = sym (mod-one n)
 number_of_rest (suc w) n =
     let d = (n / 256 ^ w) % 256 in
@@ -126,7 +102,7 @@ pub number_of_number_bytes : (w n : ℕ) → n < 256 ^ w → number_of (number_b
 number_of_number_bytes w n h = number_of_rest w n ∙ mod-eq_of_lt h
 
 -- What stands above `w` bytes is not looked at.
-pub number_bytes_low : (w c n : ℕ) → number_bytes w (c * 256 ^ w + n) ≡ number_bytes w n
+number_bytes_low : (w c n : ℕ) → number_bytes w (c * 256 ^ w + n) ≡ number_bytes w n
 number_bytes_low zero c n = refl
 number_bytes_low (suc w) c n =
     let e : c * 256 ^ suc w ≡ (c * 256) * 256 ^ w = rw pow-succ' (sym (mul_assoc c 256 (256 ^ w))) in

@@ -18,7 +18,7 @@ use Rattle.relations.proofs.Laws.Groups.{group_self}
 use Rattle.relations.proofs.Laws.Bounds.{lowest_least, larger_least, hull_least}
 use Rattle.joining.specs.Joining.{Joinable}
 use Rattle.joining.proofs.Laws.Joining.{joinable_decides, joinable_swap, joined_least, joined_swap, joined_itself, joined_kept}
-use Rattle.frames.specs.Parts.{boxWidths}
+use Rattle.frames.specs.Parts.{box_widths}
 use Rattle.frames.specs.Kinds.{of_row, describe}
 use Rattle.frames.specs.Rows.{line_of_row}
 use Rattle.reader.specs.States.{Parsed, table_read, parse}
@@ -85,7 +85,7 @@ module _ (text : List ℕ) (t : Table) (e : parse text ≡ returned (table_read 
   own_line : (i : ℕ) → i < length t.rows → InCapitals (line_part text (parse text) i) → joined_line i i t ≡ line_part text (parse text) i
   own_line i h c =
       let line = line_row text t e i h in
-      ap (line_of_row (describe of_row).byte boxWidths) (joined_itself (parent_of t) tree (row_at t i))
+      ap (line_of_row (describe of_row).byte box_widths) (joined_itself (parent_of t) tree (row_at t i))
       ∙ row_own (line_part text (parse text) i) (row_at t i) line.line line.frame c
 
   -- What can be joined, by devices.
@@ -133,7 +133,7 @@ module _ (text : List ℕ) (t : Table) (e : parse text ≡ returned (table_read 
             | inl c ↦ let a = join_asked (parse text) t e i j out x.0 x.1 c in
                 let b = join_asked (parse text) t e j i out x.1 x.0 (joinable_swap (parent_of t) (row_at t i) (row_at t j) c) in
                 let line : joined_line i j t ≡ joined_line j i t =
-                ap (line_of_row (describe of_row).byte boxWidths) (joined_swap (parent_of t) tree (row_at t i) (row_at t j) c) in
+                ap (line_of_row (describe of_row).byte box_widths) (joined_swap (parent_of t) tree (row_at t i) (row_at t j) c) in
                 (a.0 ∙ ap (λ l. told length (asked l)) line ∙ sym b.0, a.1 ∙ ap (λ l. wrote (λ m. m) (asked l) out) line ∙ sym b.1)
             | inr n ↦ both (join_differ (parse text) t e i j out x.0 x.1 n)
                 (join_differ (parse text) t e j i out x.1 x.0 (λ c. n (joinable_swap (parent_of t) (row_at t j) (row_at t i) c)))

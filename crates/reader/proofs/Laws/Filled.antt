@@ -28,7 +28,7 @@ use Rattle.policy.specs.declared.row.Filter.{Filter as FilterStruct}
 use Rattle.policy.specs.declared.row.Row.{Row as RowStruct}
 use Rattle.policy.specs.declared.table.Table.{Table as TableStruct}
 use Rattle.policy.proofs.Laws.Lists.{filters_grown, filters_kept, rows_grown}
-use Rattle.frames.specs.Parts.{boxWidths}
+use Rattle.frames.specs.Parts.{box_widths}
 use Rattle.frames.specs.Filters.{action_place, filter_from}
 use Rattle.frames.specs.Rows.{row_length, row_frame}
 use Rattle.frames.specs.Progress.{all_read}
@@ -124,8 +124,8 @@ pub record FilterPart (part : List ℕ) (f : Filter) : Type 0 where
   pub says : filter_from (bytes_of part) ≡ f
 
 pub record RowPart (part : List ℕ) (r : Row) : Type 0 where
-  pub long : row_length boxWidths (bytes_of part) ≡ true
-  pub says : row_frame boxWidths (bytes_of part) ≡ r
+  pub long : row_length box_widths (bytes_of part) ≡ true
+  pub says : row_frame box_widths (bytes_of part) ≡ r
 
 module _ (text : List ℕ) (start end : ℕ) (fs : List Frame) where
   pub filter_part : (f : Filter) → First text start end (a_frame of_filter f) fs → FilterPart (take (end - (start + 2)) (drop (start + 2) text)) f

@@ -11,14 +11,14 @@ use native.Mathlib.Omega.{arith}
 use borrow.Author.Tests.{eq-eqb, lt-ltb, le-leb, eqb-true}
 use lib.ListN.{length, get_or, get_or-eq_default}
 use Rattle.base.specs.Truths.{pick, Decides}
-use Rattle.frames.specs.Fields.{kind05, kind06, box_of}
+use Rattle.frames.specs.Parts.{box_widths}
 use Rattle.frames.specs.Kinds.{FrameName, of_entity, of_cap, of_floor, of_filter, of_row, describe}
 use Rattle.base.proofs.Laws.Decides.{decides_holds}
 use Rattle.frames.proofs.Laws.Filters.{filter_length_decides}
 use Rattle.frames.proofs.Laws.Rows.{row_counted}
 use Rattle.frames.proofs.Laws.Kinds.{lawful}
 use Rattle.reader.specs.Frames.{Frame, a_frame, no_frame, frame_in, frame_of}
-use Rattle.reader.specs.Forms.{HasForm, entity_form, cap_form, floor_form, filter_form, action_form, row_form, long_row_form, SaysFrame}
+use Rattle.reader.specs.Forms.{HasForm, entity_form, cap_form, floor_form, filter_form, action_form, row_form, SaysFrame}
 use Rattle.reader.proofs.Laws.States.{kind_own, kind_cases}
 
 -- ---- the form of a frame
@@ -52,11 +52,8 @@ form_framed b bs (filter_form e l) =
     own_long of_filter b bs e ∙ decides_holds _ (filter_length_decides bs) (inl (omega arith), omega arith)
 form_framed b bs (action_form e l a) = own_long of_filter b bs e ∙ decides_holds _ (filter_length_decides bs) (inr (omega arith), a)
 form_framed b bs (row_form n e m few l) =
-    own_long (of_row kind05) b bs e
+    own_long of_row b bs e
     ∙ rw (lt-ltb 33 (length bs) (omega arith), le-leb (get_or bs 33 0) 8 (omega arith)) (eq-eqb (length bs) (34 + get_or bs 33 0) (omega arith))
-form_framed b bs (long_row_form n e m few l) =
-    own_long (of_row kind06) b bs e
-    ∙ rw (lt-ltb 81 (length bs) (omega arith), le-leb (get_or bs 81 0) 8 (omega arith)) (eq-eqb (length bs) (82 + get_or bs 81 0) (omega arith))
 
 long_form : (k : FrameName) (b : ℕ) (bs : List ℕ) → b ≡ (describe k).byte → (describe k).long bs ≡ true → HasForm (b ∷ bs)
 long_form of_entity b bs e h = let l = eqb-true (length bs) 3 h in entity_form e (omega arith)
@@ -65,8 +62,7 @@ long_form of_floor b bs e h = let l = eqb-true (length bs) 3 h in floor_form e (
 long_form of_filter b bs e h =
     let l = (filter_length_decides bs).yes h in
     elim l.0 [ inl n ↦ filter_form e (omega arith) | inr n ↦ action_form e (omega arith) l.1 ]
-long_form (of_row kind05) b bs e h = let c = row_counted (box_of kind05) bs h in row_form (get_or bs 33 0) e refl c.0 (omega (arith, c.1))
-long_form (of_row kind06) b bs e h = let c = row_counted (box_of kind06) bs h in long_row_form (get_or bs 81 0) e refl c.0 (omega (arith, c.1))
+long_form of_row b bs e h = let c = row_counted box_widths bs h in row_form (get_or bs 33 0) e refl c.0 (omega (arith, c.1))
 
 framed_form : (b : ℕ) (bs : List ℕ) → is_frame (frame_of (b ∷ bs)) ≡ true → HasForm (b ∷ bs)
 unfolding frame_of
@@ -86,7 +82,6 @@ form_decides [] = record { yes = λ e. absurd (false≢true e); no = λ e h. not
     nothing_form (filter_form e l) = omega arith
     nothing_form (action_form e l a) = omega arith
     nothing_form (row_form n e m few l) = omega arith
-    nothing_form (long_row_form n e m few l) = omega arith
 form_decides (b ∷ bs) = record { yes = framed_form b bs; no = λ e h. true≢false (sym (form_framed b bs h) ∙ e) }
 
 -- ---- what they say

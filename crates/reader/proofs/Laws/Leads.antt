@@ -5,12 +5,11 @@
 --   one_table: no frames are those of two tables
 -- Assumes nothing.
 use mathlib.Core.Path.{◌≡◌, refl, ap, sym, ◌∙◌}
-use mathlib.Core.Bool.{Bool, true, false, ◌||◌}
+use mathlib.Core.Bool.{Bool, true, false}
 use mathlib.Core.List.{List, [], ◌∷◌, ◌++◌, map, append-nil}
 use Prim.Native.Nat.{ℕ, suc, ◌+◌, ◌<◌}
 use native.Mathlib.Omega.{arith}
-use borrow.Author.Tests.{eq-eqb, ne_eqb, lt-ltb}
-use lib.Dec.{eqb}
+use borrow.Author.Tests.{eq-eqb, lt-ltb}
 use lib.ListN.{length, get_or, length-append}
 use lib.Seq.{append_snoc, get_or-append_seam}
 use Rattle.policy.specs.Limits.{most_entities, most_filters, most_rows, technologies}
@@ -19,15 +18,13 @@ use Rattle.policy.specs.Wellformed.{FilterRule, RowRule, Counts, Wellformed}
 use Rattle.base.specs.Checks.{refusal}
 use Rattle.base.proofs.Laws.Checks.{none_broken, one_kept}
 use Rattle.frames.specs.Refusals.{out_of_sequence}
-use Rattle.frames.specs.Fields.{RowForm, kind05, same_form}
 use Rattle.frames.specs.Progress.{Progress, nothing, all_read}
 use Rattle.frames.specs.Kinds.{of_entity, of_cap, of_floor, of_filter, describe}
 use Rattle.frames.proofs.Laws.Entities.{entity_passes}
 use Rattle.frames.proofs.Laws.Filters.{filter_passes}
-use Rattle.frames.proofs.Laws.Fields.{same_itself}
 use Rattle.frames.proofs.Laws.Rows.{row_passes}
 use Rattle.reader.specs.Frames.{Frame, a_frame, a_row, no_frame}
-use Rattle.reader.specs.States.{form_among, checks, grown}
+use Rattle.reader.specs.States.{checks, grown}
 use Rattle.reader.specs.Rules.{cap_frames, frames_of}
 use Rattle.reader.proofs.Laws.Sequence.{entities_caps}
 
@@ -58,66 +55,55 @@ module _ (May : Progress → Frame → Type 0) where
 
 -- Some of the entities; all of them and some of the caps; after the floor, some of the filters; all and some of the rows.
 abbrev some_entities : List Entity → Progress
-some_entities es = record { table = entities_caps es []; floored = 0; form = kind05 }
+some_entities es = record { table = entities_caps es []; floored = 0 }
 
-module _ (t : Table) (f : RowForm) where
+module _ (t : Table) where
   abbrev some_caps : List Coefficients → Progress
-  some_caps cs = record { table = entities_caps t.entities cs; floored = 0; form = kind05 }
+  some_caps cs = record { table = entities_caps t.entities cs; floored = 0 }
 
   abbrev some_filters : List Filter → Progress
-  some_filters fs = all_read (record { entities = t.entities; caps = t.caps; floor = t.floor; filters = fs; rows = [] }) kind05
+  some_filters fs = all_read (record { entities = t.entities; caps = t.caps; floor = t.floor; filters = fs; rows = [] })
 
   abbrev some_rows : List Row → Progress
-  some_rows rs = all_read (with_rows rs t) (form_among rs f)
-
--- With one row more they are of its form.
-form_more : (done : List Row) (r : Row) (f : RowForm) → f ≡ form_among (done ++ (r ∷ [])) f
-form_more [] r f = refl
-form_more (x ∷ done) r f = refl
-
--- One row more is of the form of those before it, if there are any.
-form_like : (done : List Row) (f : RowForm) → (eqb (length done) 0 || same_form (form_among done f) f) ≡ true
-form_like [] f = refl
-form_like (x ∷ done) f = rw (ne_eqb (suc (length done)) 0 (λ z. omega arith)) (same_itself f)
+  some_rows rs = all_read (with_rows rs t)
 
 -- Each frame of the table may come where it stands.
-record Admits (May : Progress → Frame → Type 0) (t : Table) (f : RowForm) : Type 0 where
+record Admits (May : Progress → Frame → Type 0) (t : Table) : Type 0 where
   entity : (done : List Entity) (e : Entity) (rest : List Entity) → t.entities ≡ done ++ (e ∷ rest) → May (some_entities done) (a_frame of_entity e)
   cap : (done : List Coefficients) (c : Coefficients) (rest : List Coefficients) → t.caps ≡ done ++ (c ∷ rest)
-      → May (some_caps t f done) (a_frame of_cap (record { technology = length done + 1; coefficients = c }))
-  floor : May (some_caps t f t.caps) (a_frame of_floor t.floor)
-  filter : (done : List Filter) (x : Filter) (rest : List Filter) → t.filters ≡ done ++ (x ∷ rest) → May (some_filters t f done) (a_frame of_filter x)
-  row : (done : List Row) (r : Row) (rest : List Row) → t.rows ≡ done ++ (r ∷ rest) → May (some_rows t f done) (a_row f r)
+      → May (some_caps t done) (a_frame of_cap (record { technology = length done + 1; coefficients = c }))
+  floor : May (some_caps t t.caps) (a_frame of_floor t.floor)
+  filter : (done : List Filter) (f : Filter) (rest : List Filter) → t.filters ≡ done ++ (f ∷ rest) → May (some_filters t done) (a_frame of_filter f)
+  row : (done : List Row) (r : Row) (rest : List Row) → t.rows ≡ done ++ (r ∷ rest) → May (some_rows t done) (a_row r)
 
-module _ (May : Progress → Frame → Type 0) (t : Table) (f : RowForm) (a : Admits May t f) where
+module _ (May : Progress → Frame → Type 0) (t : Table) (a : Admits May t) where
   leads_entities : Leads May nothing (map (a_frame of_entity) t.entities) (some_entities t.entities)
   unfolding grown
   leads_entities = leads_from May (a_frame of_entity) some_entities t.entities a.entity (λ done e. refl) [] t.entities refl
 
   leads_caps : (done rest : List Coefficients) (k : ℕ) → k ≡ length done + 1 → t.caps ≡ done ++ rest
-      → Leads May (some_caps t f done) (cap_frames k rest) (some_caps t f t.caps)
+      → Leads May (some_caps t done) (cap_frames k rest) (some_caps t t.caps)
   unfolding grown
-  leads_caps done [] k n e = ap (some_caps t f) (sym (e ∙ append-nil done))
+  leads_caps done [] k n e = ap (some_caps t) (sym (e ∙ append-nil done))
   leads_caps done (c ∷ rest) k n e =
       let next : suc k ≡ length (done ++ (c ∷ [])) + 1 = rw length-append (omega arith) in
       (rw n (a.cap done c rest e), leads_caps (done ++ (c ∷ [])) rest (suc k) next (e ∙ sym (append_snoc done c rest)))
 
-  leads_filters : Leads May (some_filters t f []) (map (a_frame of_filter) t.filters) (some_rows t f [])
+  leads_filters : Leads May (some_filters t []) (map (a_frame of_filter) t.filters) (some_rows t [])
   unfolding grown
-  leads_filters = leads_from May (a_frame of_filter) (some_filters t f) t.filters a.filter (λ done x. refl) [] t.filters refl
+  leads_filters = leads_from May (a_frame of_filter) (some_filters t) t.filters a.filter (λ done f. refl) [] t.filters refl
 
-  leads_rows : Leads May (some_rows t f []) (map (a_row f) t.rows) (some_rows t f t.rows)
+  leads_rows : Leads May (some_rows t []) (map a_row t.rows) (some_rows t t.rows)
   unfolding grown
-  leads_rows =
-      leads_from May (a_row f) (some_rows t f) t.rows a.row (λ done r. ap (all_read (with_rows (done ++ (r ∷ [])) t)) (form_more done r f)) [] t.rows refl
+  leads_rows = leads_from May a_row (some_rows t) t.rows a.row (λ done r. refl) [] t.rows refl
 
-  leads_table : Leads May nothing (frames_of t f) (all_read t (form_among t.rows f))
+  leads_table : Leads May nothing (frames_of t) (all_read t)
   unfolding grown
   leads_table =
-      leads_append May nothing (some_entities t.entities) (some_rows t f t.rows) (map (a_frame of_entity) t.entities) _ leads_entities
-      (leads_append May (some_caps t f []) (some_caps t f t.caps) (some_rows t f t.rows) (cap_frames 1 t.caps) _ (leads_caps [] t.caps 1 refl refl) (
+      leads_append May nothing (some_entities t.entities) (some_rows t t.rows) (map (a_frame of_entity) t.entities) _ leads_entities
+      (leads_append May (some_caps t []) (some_caps t t.caps) (some_rows t t.rows) (cap_frames 1 t.caps) _ (leads_caps [] t.caps 1 refl refl) (
         a.floor,
-        leads_append May (some_filters t f []) (some_rows t f []) (some_rows t f t.rows) (map (a_frame of_filter) t.filters) _ leads_filters leads_rows,
+        leads_append May (some_filters t []) (some_rows t []) (some_rows t t.rows) (map (a_frame of_filter) t.filters) _ leads_filters leads_rows,
       ))
 
 -- What stands where the first things end, and that it is below the end.
@@ -137,8 +123,8 @@ placed_frame p no_frame = false
 abbrev pub InPlace : Progress → Frame → Type 0
 InPlace p f = placed_frame p f ≡ true
 
-module _ (t : Table) (f : RowForm) (c : Counts t) where
-  places : Admits InPlace t f
+module _ (t : Table) (c : Counts t) where
+  places : Admits InPlace t
   places =
       record {
         entity = λ done e rest q. lt-ltb (length done) most_entities (omega (arith, below t.entities done rest e q, c.few_entities));
@@ -146,24 +132,23 @@ module _ (t : Table) (f : RowForm) (c : Counts t) where
             rw (lt-ltb 0 (length t.entities) c.some_entity, lt-ltb (length done) technologies (omega (arith, below t.caps done rest x q, c.six_caps)))
             (eq-eqb (length done + 1) (length done + 1) refl);
         floor = rw (eq-eqb _ _ c.six_caps);
-        filter = λ done x rest q. lt-ltb (length done) most_filters (omega (arith, below t.filters done rest x q, c.few_filters));
-        row = λ done r rest q.
-            rw (lt-ltb (length done) most_rows (omega (arith, below t.rows done rest r q, c.few_rows))) (form_like done f);
+        filter = λ done f rest q. lt-ltb (length done) most_filters (omega (arith, below t.filters done rest f q, c.few_filters));
+        row = λ done r rest q. lt-ltb (length done) most_rows (omega (arith, below t.rows done rest r q, c.few_rows));
       }
 
-  pub places_lead : Leads InPlace nothing (frames_of t f) (all_read t (form_among t.rows f))
-  places_lead = leads_table InPlace t f places
+  pub places_lead : Leads InPlace nothing (frames_of t) (all_read t)
+  places_lead = leads_table InPlace t places
 
 -- ---- frames that are not refused
 
 abbrev pub Taken : Progress → Frame → Type 0
 Taken p f = refusal (checks p f) ≡ 0
 
-module _ (t : Table) (f : RowForm) (w : Wellformed t) where
-  rules : Admits Taken t f
+module _ (t : Table) (w : Wellformed t) where
+  rules : Admits Taken t
   unfolding checks
   rules =
-      let p = places t f w.counts in
+      let p = places t w.counts in
       record {
         entity = λ done e rest q.
             let b = below t.entities done rest e q in
@@ -171,16 +156,16 @@ module _ (t : Table) (f : RowForm) (w : Wellformed t) where
             (entity_passes t done rest e q (omega (arith, w.counts.few_entities)) (w.entity (length done) b));
         cap = λ done c rest q. one_kept _ out_of_sequence [] (p.cap done c rest q) none_broken;
         floor = one_kept _ out_of_sequence [] p.floor none_broken;
-        filter = λ done x rest q.
-            let rule : FilterRule t x = rw (seam t.filters done rest x q no_filter) at (w.filter (length done) (below t.filters done rest x q)) in
-            one_kept _ out_of_sequence _ (p.filter done x rest q) (filter_passes t x rule);
+        filter = λ done f rest q.
+            let rule : FilterRule t f = rw (seam t.filters done rest f q no_filter) at (w.filter (length done) (below t.filters done rest f q)) in
+            one_kept _ out_of_sequence _ (p.filter done f rest q) (filter_passes t f rule);
         row = λ done r rest q.
             let rule : RowRule t r = rw (seam t.rows done rest r q no_row) at (w.row (length done) (below t.rows done rest r q)) in
             one_kept _ out_of_sequence _ (p.row done r rest q) (row_passes t r rule);
       }
 
-  pub rules_lead : Leads Taken nothing (frames_of t f) (all_read t (form_among t.rows f))
-  rules_lead = leads_table Taken t f rules
+  pub rules_lead : Leads Taken nothing (frames_of t) (all_read t)
+  rules_lead = leads_table Taken t rules
 
 -- ---- frames of one table
 
@@ -188,19 +173,19 @@ module _ (t : Table) (f : RowForm) (w : Wellformed t) where
 abbrev Anyhow : Progress → Frame → Type 0
 Anyhow p f = Unit {0}
 
-leads_anyhow : (t : Table) (f : RowForm) → Leads Anyhow nothing (frames_of t f) (all_read t (form_among t.rows f))
-leads_anyhow t f =
-    leads_table Anyhow t f
+leads_anyhow : (t : Table) → Leads Anyhow nothing (frames_of t) (all_read t)
+leads_anyhow t =
+    leads_table Anyhow t
     (record {
       entity = λ done e rest q. tt;
       cap = λ done c rest q. tt;
       floor = tt;
-      filter = λ done x rest q. tt;
+      filter = λ done f rest q. tt;
       row = λ done r rest q. tt;
     })
 
-pub one_table : (t u : Table) (f g : RowForm) → frames_of t f ≡ frames_of u g → t ≡ u
-one_table t u f g e =
+pub one_table : (t u : Table) → frames_of t ≡ frames_of u → t ≡ u
+one_table t u e =
     ap (λ p. p.table)
-    (leads_once Anyhow nothing (all_read t (form_among t.rows f)) (all_read u (form_among u.rows g)) (frames_of t f)
-    (leads_anyhow t f) (rw e (leads_anyhow u g)))
+    (leads_once Anyhow nothing (all_read t) (all_read u) (frames_of t)
+    (leads_anyhow t) (rw e (leads_anyhow u)))

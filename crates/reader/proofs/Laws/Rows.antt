@@ -4,7 +4,6 @@
 --   rows_apart: the frames of a table are those before its rows, and its rows'
 --   Accepted, accepted-rows, accepted-row: so are the lines of an accepted text, and which line a row's is
 --   accepted-lines: how many lines it has
---   row-in-forms, accepted-in-forms: its rows can be written in the form that it has
 -- Assumes nothing.
 use mathlib.Core.Path.{◌≡◌, refl, ap, sym, ◌∙◌}
 use mathlib.Core.Logic.{inl, inr}
@@ -20,9 +19,8 @@ use Rattle.base.specs.Checks.{refusal}
 use Rattle.hexlines.specs.Lines.{is_line, bytes_of}
 use Rattle.policy.specs.Model.{Coefficients, Row, Table, with_rows, lines_before, no_row, row_at, parents_of}
 use Rattle.policy.specs.Wellformed.{RowRule}
-use Rattle.frames.specs.Fields.{InForms, RowForm, box_of}
 use Rattle.frames.specs.Rows.{row_content}
-use Rattle.frames.proofs.Laws.Rows.{RowInRange, row_kept, row_passes}
+use Rattle.frames.proofs.Laws.Rows.{row_kept, row_passes}
 use Rattle.reader.specs.Lines.{lines_of, rest_of}
 use Rattle.reader.specs.Frames.{Frame, a_row, frame_of}
 use Rattle.reader.specs.States.{table_read, parse}
@@ -32,71 +30,66 @@ use Rattle.reader.proofs.Laws.Rules.{line_frame, Digits, accepted_exactly}
 
 -- ---- lines that are rows
 
--- The line l is the row r of the form f, good for entities with these parents.
-pub record RowFrame (f : RowForm) (parents : List ℕ) (l : List ℕ) (r : Row) : Type 0 where
+-- The line l is the row r, good for entities with these parents.
+pub record RowFrame (parents : List ℕ) (l : List ℕ) (r : Row) : Type 0 where
   pub line : is_line l ≡ true
-  pub frame : frame_of (bytes_of l) ≡ a_row f r
+  pub frame : frame_of (bytes_of l) ≡ a_row r
   pub content : refusal (row_content parents r) ≡ 0
 
-abbrev pub RowFrames : RowForm → List ℕ → List (List ℕ) → List Row → Type 0
-RowFrames f parents [] [] = Unit {0}
-RowFrames f parents [] (r ∷ rs) = ⊥
-RowFrames f parents (l ∷ ls) [] = ⊥
-RowFrames f parents (l ∷ ls) (r ∷ rs) = RowFrame f parents l r × RowFrames f parents ls rs
+abbrev pub RowFrames : List ℕ → List (List ℕ) → List Row → Type 0
+RowFrames parents [] [] = Unit {0}
+RowFrames parents [] (r ∷ rs) = ⊥
+RowFrames parents (l ∷ ls) [] = ⊥
+RowFrames parents (l ∷ ls) (r ∷ rs) = RowFrame parents l r × RowFrames parents ls rs
 
 -- The same for a table. Of its parts only the entities count, so that a table with other rows has the same row lines.
-abbrev pub RowLine : Table → RowForm → List ℕ → Row → Type 0
-RowLine t f l r = RowFrame f (parents_of t) l r
+abbrev pub RowLine : Table → List ℕ → Row → Type 0
+RowLine t l r = RowFrame (parents_of t) l r
 
-abbrev pub RowLines : Table → RowForm → List (List ℕ) → List Row → Type 0
-RowLines t f ls rs = RowFrames f (parents_of t) ls rs
+abbrev pub RowLines : Table → List (List ℕ) → List Row → Type 0
+RowLines t ls rs = RowFrames (parents_of t) ls rs
 
-module _ (f : RowForm) (parents : List ℕ) where
-  pub rows_counted : (ls : List (List ℕ)) (rs : List Row) → RowFrames f parents ls rs → length ls ≡ length rs
+module _ (parents : List ℕ) where
+  pub rows_counted : (ls : List (List ℕ)) (rs : List Row) → RowFrames parents ls rs → length ls ≡ length rs
   rows_counted [] [] h = refl
   rows_counted [] (r ∷ rs) h = absurd h
   rows_counted (l ∷ ls) [] h = absurd h
   rows_counted (l ∷ ls) (r ∷ rs) h = ap suc (rows_counted ls rs h.1)
 
-  frames_at : (ls : List (List ℕ)) (rs : List Row) → RowFrames f parents ls rs → (k : ℕ) → k < length rs
-      → RowFrame f parents (get_or ls k []) (get_or rs k no_row)
+  frames_at : (ls : List (List ℕ)) (rs : List Row) → RowFrames parents ls rs → (k : ℕ) → k < length rs
+      → RowFrame parents (get_or ls k []) (get_or rs k no_row)
   frames_at [] [] h k b = absurd (omega arith)
   frames_at [] (r ∷ rs) h k b = absurd h
   frames_at (l ∷ ls) [] h k b = absurd h
   frames_at (l ∷ ls) (r ∷ rs) h zero b = h.0
   frames_at (l ∷ ls) (r ∷ rs) h (suc k) b = frames_at ls rs h.1 k (omega arith)
 
-  pub rows_said : (ls : List (List ℕ)) (rs : List Row) → RowFrames f parents ls rs → map line_frame ls ≡ map (a_row f) rs
+  pub rows_said : (ls : List (List ℕ)) (rs : List Row) → RowFrames parents ls rs → map line_frame ls ≡ map a_row rs
   rows_said [] [] h = refl
   rows_said [] (r ∷ rs) h = absurd h
   rows_said (l ∷ ls) [] h = absurd h
   rows_said (l ∷ ls) (r ∷ rs) h = cc (h.0.frame, rows_said ls rs h.1)
 
-  pub rows_digits : (ls : List (List ℕ)) (rs : List Row) → RowFrames f parents ls rs → Digits ls
+  pub rows_digits : (ls : List (List ℕ)) (rs : List Row) → RowFrames parents ls rs → Digits ls
   rows_digits [] [] h l m = absurd (Memᴰ.not-nil m)
   rows_digits [] (r ∷ rs) h l m = absurd h
   rows_digits (x ∷ ls) [] h l m = absurd h
   rows_digits (x ∷ ls) (r ∷ rs) h l m =
       elim (Memᴰ.cases_cons m) [ inl e ↦ rw e h.0.line | inr k ↦ rows_digits ls rs h.1 l k ]
 
--- A row of a line can be written in the line's form.
-pub row_in_forms : (f : RowForm) (parents l : List ℕ) (r : Row) → RowFrame f parents l r → InForms (box_of f) r.selector
-row_in_forms f parents l r x = let i : RowInRange (box_of f) r = rw x.frame at (in_range l) in i.forms
-
-pub rows_kept : (t : Table) (f : RowForm) (ls : List (List ℕ)) (rs : List Row) → RowLines t f ls rs → (k : ℕ) → k < length rs
-    → RowRule t (get_or rs k no_row)
-rows_kept t f ls rs h k b =
-    let x = frames_at f (parents_of t) ls rs h k b in
-    row_kept f t (get_or rs k no_row) (rw x.frame at (in_range (get_or ls k []))) x.content
+pub rows_kept : (t : Table) (ls : List (List ℕ)) (rs : List Row) → RowLines t ls rs → (k : ℕ) → k < length rs → RowRule t (get_or rs k no_row)
+rows_kept t ls rs h k b =
+    let x = frames_at (parents_of t) ls rs h k b in
+    row_kept t (get_or rs k no_row) (rw x.frame at (in_range (get_or ls k []))) x.content
 
 -- ---- the lines before the rows, and the rows' lines
 
-pub rows_apart : (t : Table) (f : RowForm) (done rs : List Row) → frames_of (with_rows (done ++ rs) t) f ≡ frames_of (with_rows done t) f ++ map (a_row f) rs
-rows_apart t f done rs = simp (map-append, append_assoc)
+pub rows_apart : (t : Table) (done rs : List Row) → frames_of (with_rows (done ++ rs) t) ≡ frames_of (with_rows done t) ++ map a_row rs
+rows_apart t done rs = simp (map-append, append_assoc)
 
-module _ (t : Table) (f : RowForm) (rules : (k : ℕ) → k < length t.rows → RowRule t (row_at t k)) where
+module _ (t : Table) (rules : (k : ℕ) → k < length t.rows → RowRule t (row_at t k)) where
   row_lines : (ls : List (List ℕ)) (rs : List Row) → ((k : ℕ) → k < length rs → RowRule t (get_or rs k no_row)) → Digits ls
-      → map line_frame ls ≡ map (a_row f) rs → RowLines t f ls rs
+      → map line_frame ls ≡ map a_row rs → RowLines t ls rs
   row_lines [] [] r d e = tt
   row_lines [] (x ∷ rs) r d e = let z : ◌≡◌ {A = ℕ} 0 1 = cc in absurd (omega arith)
   row_lines (l ∷ ls) [] r d e = let z : ◌≡◌ {A = ℕ} 0 1 = cc in absurd (omega arith)
@@ -106,11 +99,11 @@ module _ (t : Table) (f : RowForm) (rules : (k : ℕ) → k < length t.rows → 
   )
 
   -- Lines whose frames are some others and then the table's rows.
-  split : (fs : List Frame) (ls : List (List ℕ)) → Digits ls → map line_frame ls ≡ fs ++ map (a_row f) t.rows
-      → (map line_frame (take (length fs) ls) ≡ fs) × Digits (take (length fs) ls) × RowLines t f (drop (length fs) ls) t.rows
+  split : (fs : List Frame) (ls : List (List ℕ)) → Digits ls → map line_frame ls ≡ fs ++ map a_row t.rows
+      → (map line_frame (take (length fs) ls) ≡ fs) × Digits (take (length fs) ls) × RowLines t (drop (length fs) ls) t.rows
   split [] ls d e = (refl, λ l m. absurd (Memᴰ.not-nil m), row_lines ls t.rows rules d e)
-  split (g ∷ fs) [] d e = let z : ◌≡◌ {A = ℕ} 0 1 = cc in absurd (omega arith)
-  split (g ∷ fs) (l ∷ ls) d e =
+  split (f ∷ fs) [] d e = let z : ◌≡◌ {A = ℕ} 0 1 = cc in absurd (omega arith)
+  split (f ∷ fs) (l ∷ ls) d e =
       let x = split fs ls (λ m k. d m (Memᴰ.tail k)) cc in
       (cc x.0, λ m h. elim (Memᴰ.cases_cons h) [ inl q ↦ rw q (d l (Memᴰ.head refl)) | inr k ↦ x.1 m k ], x.2)
 
@@ -120,36 +113,32 @@ pub caps_counted : (n : ℕ) (cs : List Coefficients) → length (cap_frames n c
 caps_counted n [] = refl
 caps_counted n (c ∷ cs) = ap suc (caps_counted (suc n) cs)
 
-frames_counted : (t : Table) (f : RowForm) → length (frames_of t f) ≡ lines_before 1 t + length t.rows
-frames_counted t f = simp (length-append, length-map, caps_counted) (omega arith)
+frames_counted : (t : Table) → length (frames_of t) ≡ lines_before 1 t + length t.rows
+frames_counted t = simp (length-append, length-map, caps_counted) (omega arith)
 
 -- The text is ended by a line feed; its lines are some that say the table without rows, and then those of its rows.
-pub record Accepted (text : List ℕ) (t : Table) (f : RowForm) : Type 0 where
+pub record Accepted (text : List ℕ) (t : Table) : Type 0 where
   pub ended : length (rest_of text) ≡ 0
-  pub others : map line_frame (take (length (lines_of text) - length t.rows) (lines_of text)) ≡ frames_of (with_rows [] t) f
+  pub others : map line_frame (take (length (lines_of text) - length t.rows) (lines_of text)) ≡ frames_of (with_rows [] t)
   pub digits : Digits (take (length (lines_of text) - length t.rows) (lines_of text))
-  pub rows : RowLines t f (drop (length (lines_of text) - length t.rows) (lines_of text)) t.rows
+  pub rows : RowLines t (drop (length (lines_of text) - length t.rows) (lines_of text)) t.rows
 
-module _ (text : List ℕ) (t : Table) (f : RowForm) (e : parse text ≡ returned (table_read t f)) where
+module _ (text : List ℕ) (t : Table) (e : parse text ≡ returned (table_read t)) where
   -- Each line before the rows is an entity's, a cap's, the floor's or a filter's.
   pub accepted_lines : length (lines_of text) ≡ lines_before 1 t + length t.rows
   accepted_lines =
-      sym (length-map (lines_of text) line_frame) ∙ ap length ((accepted_exactly text t f).0 e).says.frames ∙ frames_counted t f
+      sym (length-map (lines_of text) line_frame) ∙ ap length ((accepted_exactly text t).0 e).says.frames ∙ frames_counted t
 
-  pub accepted_rows : Accepted text t f
+  pub accepted_rows : Accepted text t
   accepted_rows =
-      let k = (accepted_exactly text t f).0 e in
-      let n : length (frames_of (with_rows [] t) f) ≡ length (lines_of text) - length t.rows = omega (arith, frames_counted (with_rows [] t) f, accepted_lines) in
-      let x = rw n at (split t f k.well.row (frames_of (with_rows [] t) f) (lines_of text) k.says.digits (k.says.frames ∙ rows_apart t f [] t.rows)) in
+      let k = (accepted_exactly text t).0 e in
+      let n : length (frames_of (with_rows [] t)) ≡ length (lines_of text) - length t.rows = omega (arith, frames_counted (with_rows [] t), accepted_lines) in
+      let x = rw n at (split t k.well.row (frames_of (with_rows [] t)) (lines_of text) k.says.digits (k.says.frames ∙ rows_apart t [] t.rows)) in
       record { ended = ap length k.says.ended; others = x.0; digits = x.1; rows = x.2 }
 
   -- The row at k is the line at k among the last lines, as many as there are rows.
   pub accepted_row : (k : ℕ) → k < length t.rows
-      → RowLine t f (get_or (lines_of text) (length (lines_of text) - length t.rows + k) []) (row_at t k)
+      → RowLine t (get_or (lines_of text) (length (lines_of text) - length t.rows + k) []) (row_at t k)
   accepted_row k h =
       rw (← get_or-drop (length (lines_of text) - length t.rows) (lines_of text) k [])
-      (frames_at f (parents_of t) (drop (length (lines_of text) - length t.rows) (lines_of text)) t.rows accepted_rows.rows k h)
-
-  -- Each row can be written in the form that the text has.
-  pub accepted_in_forms : (k : ℕ) → k < length t.rows → InForms (box_of f) (row_at t k).selector
-  accepted_in_forms k h = row_in_forms f (parents_of t) _ (row_at t k) (accepted_row k h)
+      (frames_at (parents_of t) (drop (length (lines_of text) - length t.rows) (lines_of text)) t.rows accepted_rows.rows k h)

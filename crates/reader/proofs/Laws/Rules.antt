@@ -1,6 +1,4 @@
 -- Demand 1, "Every text that keeps the table rules of document 01 is accepted", and no other:
---   frames-among: a table without rows has the same frames with either form
---   parsed-keeps: of what was read of an accepted text
 --   accepted-exactly: the reader accepts a text as a table exactly when the text keeps the rules and says the table
 --   refused-otherwise: a text that says no table is refused
 -- Assumes nothing.
@@ -16,17 +14,16 @@ use lib.Dec.{eqb}
 use lib.ListN.{length}
 use lib.Seq.{append_snoc}
 use Rattle.hexlines.specs.Lines.{is_line, bytes_of}
-use Rattle.policy.specs.Model.{Row, Table}
-use Rattle.frames.specs.Fields.{RowForm}
+use Rattle.policy.specs.Model.{Table}
 use Rattle.base.specs.Checks.{refusal}
 use Rattle.base.proofs.Laws.Lists.{length_none}
 use Rattle.reader.specs.Lines.{lines_of, rest_of}
-use Rattle.reader.specs.Frames.{Frame, a_frame, a_row, no_frame, frame_of}
+use Rattle.reader.specs.Frames.{Frame, a_frame, no_frame, frame_of}
 use Rattle.base.specs.Answers.{Answer, returned, refused_by}
 use Rattle.frames.specs.Progress.{Progress, nothing, all_read}
 use Rattle.frames.proofs.Laws.Growing.{Sequenced, Growing, growing_nothing}
-use Rattle.reader.specs.States.{Parsed, form_among, table_read, State, reading, refused, checks, grown, take_frame, step, run, finish, parse}
-use Rattle.reader.specs.Rules.{frames_so_far, frames_of, KeepsRules}
+use Rattle.reader.specs.States.{Parsed, table_read, State, reading, refused, checks, grown, take_frame, step, run, finish, parse}
+use Rattle.reader.specs.Rules.{frames_so_far, KeepsRules}
 use Rattle.reader.proofs.Laws.States.{run_refused}
 use Rattle.reader.proofs.Laws.Runs.{pick_either}
 use Rattle.reader.proofs.Laws.Wellformed.{kept, never_none, growing_frame, in_range, accepted_wellformed}
@@ -87,8 +84,7 @@ run_told (l ∷ ls) n m p q g e =
 
 -- What a state and the text's end are, by what the text is.
 abbrev Ending : State → List ℕ → Answer Parsed → Type 0
-Ending s rest (returned r) =
-    (length rest ≡ 0) × (n : ℕ) × (f : RowForm) × (s ≡ reading n (all_read r.table f)) × (form_among r.table.rows f ≡ r.form)
+Ending s rest (returned r) = (length rest ≡ 0) × (n : ℕ) × (s ≡ reading n (all_read r.table))
 Ending s rest (refused_by k n) = Unit {0}
 
 ending : (s : State) (rest : List ℕ) → Ending s rest (finish s rest)
@@ -96,55 +92,20 @@ unfolding finish
 ending (reading n p) rest =
     pick_either (Ending (reading n p) rest) (eqb (length rest) 0) _ _
     (λ e. pick_either (Ending (reading n p) rest) (eqb p.floored 1) _ _
-    (λ f. (eqb-true _ _ e, n, p.form, ap (λ x. reading n (record { table = p.table; floored = x; form = p.form })) (eqb-true _ _ f), refl))
+    (λ f. (eqb-true _ _ e, n, ap (λ x. reading n (record { table = p.table; floored = x })) (eqb-true _ _ f)))
     (λ f. tt))
     (λ e. tt)
 ending (refused k n) rest = tt
 
-rows_among : (f g : RowForm) (rs : List Row) → form_among rs f ≡ form_among rs g → map (a_row f) rs ≡ map (a_row g) rs
-rows_among f g [] e = refl
-rows_among f g (r ∷ rs) e = ap (λ x. map (a_row x) (r ∷ rs)) e
-
--- Where there are no rows, their form is nothing to the frames.
-pub frames_among : (t : Table) (f g : RowForm) → form_among t.rows f ≡ form_among t.rows g → frames_of t f ≡ frames_of t g
-frames_among t f g e = rw (rows_among f g t.rows e)
-
-among_twice : (rs : List Row) (f : RowForm) → form_among rs (form_among rs f) ≡ form_among rs f
-among_twice [] f = refl
-among_twice (r ∷ rs) f = refl
-
--- What was read of an accepted text is of the table and the rows' form that the text says.
-pub parsed_keeps : (text : List ℕ) (r : Parsed) → parse text ≡ returned r → KeepsRules text r.table r.form × (r ≡ table_read r.table r.form)
+accepted_keeps : (text : List ℕ) (t : Table) → parse text ≡ returned (table_read t) → KeepsRules text t
 unfolding parse
-parsed_keeps text r e =
+accepted_keeps text t e =
     let s = run (reading 0 nothing) (lines_of text) in
-    let x : Ending s (rest_of text) (returned r) = rw e at (ending s (rest_of text)) in
-    let told = run_told (lines_of text) 0 _ nothing (all_read r.table x.2) growing_nothing x.3 in
-    let own : r.form ≡ form_among r.table.rows r.form =
-    sym x.4 ∙ sym (among_twice r.table.rows x.2) ∙ ap (form_among r.table.rows) x.4 in (
-      record {
-        says =
-            record {
-              ended = length_none (rest_of text) x.0;
-              digits = told.digits;
-              frames = told.frames ∙ frames_among r.table x.2 r.form (x.4 ∙ own);
-            };
-        well = accepted_wellformed text r e;
-      },
-      λ i. record { table = r.table; form = own i },
-    )
-
-accepted_keeps : (text : List ℕ) (t : Table) (f : RowForm) → parse text ≡ returned (table_read t f) → KeepsRules text t f
-accepted_keeps text t f e =
-    let k = (parsed_keeps text (table_read t f) e).0 in
+    let x : Ending s (rest_of text) (returned (table_read t)) = rw e at (ending s (rest_of text)) in
+    let told = run_told (lines_of text) 0 _ nothing (all_read t) growing_nothing x.2 in
     record {
-      says =
-          record {
-            ended = k.says.ended;
-            digits = k.says.digits;
-            frames = k.says.frames ∙ frames_among t (form_among t.rows f) f (among_twice t.rows f);
-          };
-      well = k.well;
+      says = record { ended = length_none (rest_of text) x.0; digits = told.digits; frames = told.frames };
+      well = accepted_wellformed text t e;
     }
 
 -- ---- a text that keeps the rules is accepted
@@ -157,23 +118,21 @@ run_leads [] n p q d h = (n, ap (reading n) h)
 run_leads (l ∷ ls) n p q d h =
     rw (d l (Memᴰ.head refl), h.0) (run_leads ls (suc n) (grown p (line_frame l)) q (λ m k. d m (Memᴰ.tail k)) h.1)
 
-keeps_accepted : (text : List ℕ) (t : Table) (f : RowForm) → KeepsRules text t f → parse text ≡ returned (table_read t f)
+keeps_accepted : (text : List ℕ) (t : Table) → KeepsRules text t → parse text ≡ returned (table_read t)
 unfolding parse finish
-keeps_accepted text t f k =
-    let end = all_read t (form_among t.rows f) in
-    let h : Leads Taken nothing (map line_frame (lines_of text)) end = rw k.says.frames (rules_lead t f k.well) in
-    rw ((run_leads (lines_of text) 0 nothing end k.says.digits h).1, k.says.ended)
-    (ap (λ x. returned (record { table = t; form = x })) (among_twice t.rows f))
+keeps_accepted text t k =
+    let h : Leads Taken nothing (map line_frame (lines_of text)) (all_read t) = rw k.says.frames (rules_lead t k.well) in
+    rw ((run_leads (lines_of text) 0 nothing (all_read t) k.says.digits h).1, k.says.ended)
 
 -- ---- the theorem
 
-pub accepted_exactly : (text : List ℕ) (t : Table) (f : RowForm) → (parse text ≡ returned (table_read t f)) ↔ KeepsRules text t f
-accepted_exactly text t f = (accepted_keeps text t f, keeps_accepted text t f)
+pub accepted_exactly : (text : List ℕ) (t : Table) → (parse text ≡ returned (table_read t)) ↔ KeepsRules text t
+accepted_exactly text t = (accepted_keeps text t, keeps_accepted text t)
 
-pub refused_otherwise : (text : List ℕ) → ((t : Table) (f : RowForm) → KeepsRules text t f → ⊥)
+pub refused_otherwise : (text : List ℕ) → ((t : Table) → KeepsRules text t → ⊥)
     → (number : ℕ) × (line : ℕ) × (parse text ≡ refused_by number line)
 refused_otherwise text none = go (parse text) refl
   where
     go : (x : Answer Parsed) → parse text ≡ x → (number : ℕ) × (line : ℕ) × (parse text ≡ refused_by number line)
-    go (returned r) e = absurd (none r.table r.form (parsed_keeps text r e).0)
+    go (returned r) e = absurd (none r.table (accepted_keeps text r.table e))
     go (refused_by number line) e = (number, line, e)

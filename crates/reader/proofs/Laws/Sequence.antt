@@ -17,7 +17,6 @@ use lib.ListN.{length, replicate, length-append, length-replicate}
 use Rattle.base.proofs.Laws.Lists.{length_none}
 use Rattle.policy.specs.Limits.{technologies}
 use Rattle.policy.specs.Model.{Entity, Coefficients, Table, no_entity}
-use Rattle.frames.specs.Fields.{kind05}
 use Rattle.frames.specs.Progress.{Progress}
 use Rattle.frames.specs.Caps.{Cap}
 use Rattle.frames.specs.Kinds.{FrameName, of_entity, of_cap, of_floor, of_filter, of_row, Value, describe}
@@ -26,7 +25,6 @@ use Rattle.frames.proofs.Laws.Entities.{no_caps, early_entity}
 use Rattle.frames.proofs.Laws.Caps.{cap_next, early_cap}
 use Rattle.frames.proofs.Laws.Floors.{early_floor}
 use Rattle.frames.proofs.Laws.Filters.{early_filter}
-use Rattle.frames.proofs.Laws.Rows.{row_like}
 use Rattle.reader.specs.Frames.{Frame, a_frame}
 use Rattle.reader.specs.Rules.{cap_frames, frames_so_far, frames_of}
 use Rattle.reader.specs.Faults.{Begins}
@@ -84,11 +82,7 @@ so_far_more p of_floor c q m =
     rw (length_none p.table.filters none.0, length_none p.table.rows none.1, z) (simp (append_assoc, append-nil))
 so_far_more p of_filter f q m =
     rw (length_none p.table.rows (early_filter p f m)) (simp (map-append, append_assoc, append-nil))
-so_far_more p (of_row f) r q m =
-    elim (row_like f p m) [
-      | inl e ↦ rw (length_none p.table.rows e) (simp (append_assoc, append-nil))
-      | inr e ↦ rw e (simp (map-append, append_assoc))
-    ]
+so_far_more p of_row r q m = simp (map-append, append_assoc)
 
 -- ---- the sequence can go on
 
@@ -101,7 +95,7 @@ abbrev pub entities_caps : List Entity → List Coefficients → Table
 entities_caps es cs = record { entities = es; caps = cs; floor = 0 ∷ 0 ∷ 0 ∷ []; filters = []; rows = [] }
 
 pub begins_so_far : (p : Progress) → Sequenced p → Begins (frames_so_far p)
-begins_so_far p (after_floor f c) = record { further = []; table = p.table; form = p.form; sequence = append-nil (frames_so_far p) ∙ rw f; counts = c }
+begins_so_far p (after_floor f c) = record { further = []; table = p.table; sequence = append-nil (frames_so_far p) ∙ rw f; counts = c }
 begins_so_far p (before_floor z q) = elim (dec_lt 0 (length p.table.entities)) [ yes e ↦ some e | no e ↦ none (omega arith) ]
   where
     some : 0 < length p.table.entities → Begins (frames_so_far p)
@@ -111,7 +105,6 @@ begins_so_far p (before_floor z q) = elim (dec_lt 0 (length p.table.entities)) [
         record {
           further = cap_frames (length cs + 1) (missing cs) ++ (a_frame of_floor (0 ∷ 0 ∷ 0 ∷ []) ∷ []);
           table = entities_caps p.table.entities (cs ++ missing cs);
-          form = kind05;
           sequence = rw (early_frames p z q.none_later, caps_append 1 cs (missing cs)) (simp append_assoc);
           counts =
               record {
@@ -130,9 +123,8 @@ begins_so_far p (before_floor z q) = elim (dec_lt 0 (length p.table.entities)) [
           | no h ↦ omega arith
         ] in
         record {
-          further = frames_of (entities_caps (no_entity ∷ []) (missing [])) kind05;
+          further = frames_of (entities_caps (no_entity ∷ []) (missing []));
           table = entities_caps (no_entity ∷ []) (missing []);
-          form = kind05;
           sequence = rw (early_frames p z q.none_later, length_none p.table.entities e, length_none p.table.caps caps);
           counts =
               record { some_entity = omega arith; few_entities = omega arith; six_caps = refl; few_filters = omega arith; few_rows = omega arith };

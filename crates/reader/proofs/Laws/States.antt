@@ -16,7 +16,6 @@ use Rattle.base.specs.Checks.{refusal}
 use Rattle.base.proofs.Laws.Checks.{refusal_first, refusal_broken}
 use Rattle.frames.specs.Refusals.{wrong_form}
 use Rattle.frames.specs.Progress.{Progress, misfit_of}
-use Rattle.frames.specs.Fields.{kind05, kind06}
 use Rattle.frames.specs.Kinds.{FrameName, of_entity, of_cap, of_floor, of_filter, of_row, describe, frame_names}
 use Rattle.frames.proofs.Laws.Parts.{misfit_none}
 use Rattle.reader.specs.Frames.{Frame, a_frame, no_frame, frame_in, frame_among, frame_of_kind}
@@ -74,8 +73,7 @@ kind_own of_entity bs = refl
 kind_own of_cap bs = refl
 kind_own of_floor bs = refl
 kind_own of_filter bs = refl
-kind_own (of_row kind05) bs = refl
-kind_own (of_row kind06) bs = refl
+kind_own of_row bs = refl
 
 -- The byte is that of one of these kinds, or no frame's of them.
 among_cases : (ks : List FrameName) (b : ℕ) → ((k : FrameName) × (b ≡ (describe k).byte)) ⊎ ((bs : List ℕ) → frame_among ks b bs ≡ no_frame)

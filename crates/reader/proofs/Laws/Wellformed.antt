@@ -19,6 +19,7 @@ use Rattle.base.specs.Checks.{refusal}
 use Rattle.base.proofs.Laws.Checks.{refusal_none, Numbered, refusal_most}
 use Rattle.hexlines.specs.Digits.{byte_of}
 use Rattle.hexlines.specs.Lines.{is_line, bytes_of}
+use Rattle.policy.specs.Model.{Table}
 use Rattle.policy.specs.Wellformed.{Wellformed}
 use Rattle.frames.specs.Refusals.{wrong_form, out_of_sequence, last_of_text}
 use Rattle.frames.specs.Progress.{Progress, nothing, lines_read}
@@ -27,7 +28,7 @@ use Rattle.frames.proofs.Laws.Growing.{Growing, growing_nothing, whole, few_line
 use Rattle.frames.proofs.Laws.Kinds.{InRange, lawful}
 use Rattle.reader.specs.Lines.{lines_of, rest_of}
 use Rattle.reader.specs.Frames.{Frame, a_frame, no_frame, frame_among, frame_of_kind, frame_of}
-use Rattle.reader.specs.States.{Parsed, State, reading, refused, checks, grown, take_frame, step, run, finish, parse}
+use Rattle.reader.specs.States.{Parsed, table_read, State, reading, refused, checks, grown, take_frame, step, run, finish, parse}
 use Rattle.reader.proofs.Laws.Runs.{pick_either, run_keeps}
 
 -- ---- the numbers of a line's frame
@@ -155,8 +156,8 @@ parse_sound : (text : List ℕ) → Ended (parse text)
 unfolding parse
 parse_sound text = end_sound (run (reading 0 nothing) (lines_of text)) (rest_of text) (run_sound (lines_of text))
 
-pub accepted_wellformed : (text : List ℕ) (r : Parsed) → parse text ≡ returned r → Wellformed r.table
-accepted_wellformed text r e = rw e at (parse_sound text)
+pub accepted_wellformed : (text : List ℕ) (t : Table) → parse text ≡ returned (table_read t) → Wellformed t
+accepted_wellformed text t e = rw e at (parse_sound text)
 
 pub refused_line : (text : List ℕ) (k n : ℕ) → parse text ≡ refused_by k n → (n < 256) × ((1 ≤ k) × (k ≤ last_of_text))
 refused_line text k n e = rw e at (parse_sound text)

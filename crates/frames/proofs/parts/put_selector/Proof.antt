@@ -2,14 +2,13 @@
 use borrow.Author.Rules.{rules}
 use Prim.Native.Nat.{ℕ}
 use mathlib.Core.Path.{◌≡◌, ap, ◌∙◌}
-use mathlib.Core.List.{List, [], ◌++◌, append_assoc, append-nil}
+use mathlib.Core.List.{List, ◌++◌, append_assoc, append-nil}
 use native.Mathlib.Omega.{arith}
 use lib.ListN.{length-append}
 use lib.Seq.{sets}
 use Rattle.policy.specs.Views.{range_of, selector_of}
 use Rattle.base.proofs.Laws.Lists.{sets_after}
-use Rattle.frames.specs.Fields.{box_of, form_of}
-use Rattle.frames.specs.Parts.{bytes_of_range, bytes_of_box}
+use Rattle.frames.specs.Parts.{bytes_of_range, bytes_of_box, box_of}
 use Rattle.frames.proofs.Laws.Writing.{length_bytes_of_range}
 use Rattle.frames.proofs.parts.put_selector.Statement.{statement}
 use Rattle.frames.proofs.parts.put_selector.Tie as tie
@@ -27,11 +26,8 @@ module _ (c : tie.After-put-range5) where
   abbrev first : tie.After-put-range
   first = second.before.before.before.before
 
-  abbrev sized : tie.After-address-bytes
-  sized = first.before.before
-
   abbrev s : tie.Start
-  s = sized.before.before
+  s = first.before.before.before
 
   abbrev start : List ℕ
   start = s.args.bytes.now
@@ -40,7 +36,7 @@ module _ (c : tie.After-put-range5) where
   at = s.args.at
 
   abbrev w : ℕ
-  w = sized.address-bytes.result
+  w = s.args.address
 
   abbrev from : List ℕ
   from = bytes_of_range w (range_of s.args.s.source_address)
@@ -57,13 +53,7 @@ module _ (c : tie.After-put-range5) where
   abbrev protocol : List ℕ
   protocol = bytes_of_range 1 (range_of s.args.s.protocol)
 
-  -- the box, with addresses of so many bytes
-  abbrev box : ℕ → List ℕ
-  box width =
-      bytes_of_range width (range_of s.args.s.source_address)
-      ++ (bytes_of_range width (range_of s.args.s.destination_address) ++ (from_port ++ (to_port ++ (protocol ++ []))))
-
-  stored : c.put-range5.new.1.1.0 ≡ sets s.args.bytes.now s.args.at (bytes_of_box (box_of (form_of s.args.long)) (selector_of s.args.s))
+  stored : c.put-range5.new.1.1.0 ≡ sets s.args.bytes.now s.args.at (bytes_of_box (box_of s.args.address) (selector_of s.args.s))
   stored =
       let a = length_bytes_of_range w (range_of s.args.s.source_address) in
       let b = length_bytes_of_range w (range_of s.args.s.destination_address) in
@@ -76,14 +66,14 @@ module _ (c : tie.After-put-range5) where
       let three = sets_after start at (from ++ to) from_port two third.put-range3.ensures (omega arith) in
       let four = sets_after start at ((from ++ to) ++ from_port) to_port three fourth.put-range4.ensures (omega arith) in
       let five = sets_after start at (((from ++ to) ++ from_port) ++ to_port) protocol four c.put-range5.ensures (omega arith) in
-      let whole : (((from ++ to) ++ from_port) ++ to_port) ++ protocol ≡ box w = simp (append_assoc, append-nil) in
-      five ∙ ap (sets start at) (whole ∙ ap box sized.address-bytes.ensures.0)
+      let whole : (((from ++ to) ++ from_port) ++ to_port) ++ protocol ≡ bytes_of_box (box_of w) (selector_of s.args.s) =
+      simp (append_assoc, append-nil) in
+      five ∙ ap (sets start at) whole
 
 pub put_selector_spec : {M : Type 1} → statement M
 put_selector_spec =
     tie.close
     (tie.spec
-    (λ c κs. search rules)
     (λ c. search rules) (λ c. search rules) (λ c. search rules) (λ c. search rules)
     (λ c κs. search rules) (λ c κs. search rules) (λ c κs. search rules)
     (λ c. search rules) (λ c. search rules) (λ c κs. search rules)

@@ -8,21 +8,17 @@ returns : tie.Need-returns
 returns c =
     let f = c.before.before in
     simp (
-      f.before.before.addresses.ensures,
-      f.before.addresses2.ensures,
-      f.range.ensures,
-      c.before.range2.ensures,
-      c.range3.ensures,
-      f.before.before.before.address-bytes.ensures.0,
+      f.before.before.range.ensures,
+      f.before.range2.ensures,
+      f.range3.ensures,
+      c.before.range4.ensures,
+      c.range5.ensures,
       add_assoc,
     )
 
 pub selector_spec : {M : Type 1} → statement M
 selector_spec =
     tie.close
-    (tie.spec (λ c κs. search rules)
-    (λ c. search rules) (λ c. search rules) (λ c. search rules) (λ c. search rules)
-    (λ c κs. search rules) (λ c κs. search rules) (λ c κs. search rules)
-    (λ c. search rules) (λ c. search rules) (λ c κs. search rules)
-    (λ c. search rules) (λ c. search rules) (λ c κs. search rules)
-    returns)
+    (tie.spec (λ c. search rules) (λ c. search rules) (λ c. search rules) (λ c. search rules) (λ c κs. search rules) (λ c κs. search rules)
+    (λ c κs. search rules) (λ c. search rules) (λ c. search rules) (λ c κs. search rules) (λ c. search rules) (λ c. search rules)
+    (λ c κs. search rules) returns)

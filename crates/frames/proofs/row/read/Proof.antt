@@ -7,7 +7,7 @@ use lib.ListN.{length, get_or}
 use Rattle.policy.specs.Limits.{most_gateways}
 use Rattle.hexlines.specs.Lines.{bytes_of}
 use Rattle.hexlines.proofs.Laws.Lines.{length_bytes_of}
-use Rattle.frames.specs.Fields.{box_of, form_of}
+use Rattle.frames.specs.Parts.{box_of}
 use Rattle.frames.specs.Rows.{count_place}
 use Rattle.frames.proofs.Laws.Rows.{row_counted}
 use Rattle.frames.proofs.row.read.Statement.{statement}
@@ -19,11 +19,11 @@ module _ (s : tie.Start) where
   bs = bytes_of s.args.part.now
 
   abbrev place : ℕ
-  place = count_place (box_of (form_of s.args.long))
+  place = count_place (box_of s.args.address)
 
   room : (get_or bs place 0 ≤ most_gateways) × (2 * (place + 1 + get_or bs place 0) ≤ length s.args.part.now)
   room =
-      let r = row_counted (box_of (form_of s.args.long)) bs s.pre in
+      let r = row_counted (box_of s.args.address) bs s.pre.0 in
       (r.0, omega (arith, r.1, length_bytes_of s.args.part.now))
 
 returns : tie.Need-returns
@@ -31,7 +31,7 @@ returns c =
     let g = c.before.before.before.before.before.before in
     let p = g.before.before in
     rw (
-      ← p.count-place.ensures.0,
+      ← p.count-place.ensures,
       g.gateways.ensures,
       g.before.u8-at.ensures,
       c.before.before.before.before.before.u8-at2.ensures,
@@ -46,7 +46,7 @@ returns c =
 module _ (c : tie.After-count-place) where
   lies : (get_or (bs c.before.before) c.count-place.result 0 ≤ most_gateways)
       × (2 * (c.count-place.result + 1 + get_or (bs c.before.before) c.count-place.result 0) ≤ length c.before.before.args.part.now)
-  lies = rw c.count-place.ensures.0 (room c.before.before)
+  lies = rw c.count-place.ensures (room c.before.before)
 
 pub read_spec : {M : Type 1} → statement M
 read_spec =

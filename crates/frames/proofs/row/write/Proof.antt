@@ -10,8 +10,7 @@ use Rattle.policy.specs.Model.{Row}
 use Rattle.policy.specs.Views.{row_of}
 use Rattle.base.proofs.Laws.Lists.{sets_after}
 use Rattle.base.proofs.Laws.Members.{take_own}
-use Rattle.frames.specs.Fields.{FieldForm, RowForm, row_byte, box_of, form_of}
-use Rattle.frames.specs.Parts.{bytes_of_box, box_bytes}
+use Rattle.frames.specs.Parts.{bytes_of_box, box_of, box_bytes}
 use Rattle.frames.specs.Rows.{bytes_of_row}
 use Rattle.frames.proofs.Laws.Writing.{length_bytes_of_box, length_bytes_of_row}
 use Rattle.frames.proofs.row.write.Statement.{statement}
@@ -52,11 +51,8 @@ module _ (c : tie.After-put-bytes3) where
   abbrev first : tie.After-put-bytes
   first = boxed.before.before.before.before
 
-  abbrev kinded : tie.After-kind
-  kinded = first.before.before.before
-
   abbrev counted : tie.After-gateway-count
-  counted = kinded.before.before
+  counted = first.before.before.before.before
 
   abbrev start : List ℕ
   start = (s counted).args.bytes.now
@@ -65,37 +61,31 @@ module _ (c : tie.After-put-bytes3) where
   r = row counted
 
   abbrev head : List ℕ
-  head = kinded.kind.result ∷ r.holder ∷ r.source ∷ r.destination ∷ r.technology ∷ r.coefficients
+  head = (s counted).args.kind ∷ r.holder ∷ r.source ∷ r.destination ∷ r.technology ∷ r.coefficients
 
-  abbrev form : RowForm
-  form = form_of (s counted).args.long
-
-  abbrev fs : List FieldForm
-  fs = box_of form
+  abbrev ws : List ℕ
+  ws = box_of (s counted).args.address
 
   abbrev box : List ℕ
-  box = bytes_of_box fs r.selector
+  box = bytes_of_box ws r.selector
 
   abbrev all : List ℕ
-  all = row_byte form ∷ bytes_of_row fs r
+  all = (s counted).args.kind ∷ bytes_of_row ws r
 
-  box_long : length box ≡ box_bytes fs
-  box_long = length_bytes_of_box fs r.selector refl
+  box_long : length box ≡ box_bytes ws
+  box_long = length_bytes_of_box ws r.selector refl
 
   whole : ((head ++ box) ++ (n counted ∷ [])) ++ gateways counted ≡ all
   whole =
       append_assoc (head ++ box) (n counted ∷ []) (gateways counted)
       ∙ append_assoc head box (n counted ∷ gateways counted)
-      ∙ (λ i. (kinded.kind.ensures i ∷ after) ++ (box ++ ((long counted ∙ ap length (own counted)) i ∷ own counted i)))
-    where
-      after : List ℕ
-      after = r.holder ∷ r.source ∷ r.destination ∷ r.technology ∷ r.coefficients
+      ∙ (λ i. head ++ (box ++ ((long counted ∙ ap length (own counted)) i ∷ own counted i)))
 
   stored : c.put-bytes3.new.1.0 ≡ sets start 0 all
   stored =
       let lead = length-append head box in
       let count = length-append (head ++ box) (n counted ∷ []) in
-      let place = counted.before.count-place.ensures.0 in
+      let place = counted.before.count-place.ensures in
       let b = box_long in
       let two = sets_after start 0 head box first.put-bytes.ensures boxed.put-selector.ensures refl in
       let three = sets_after start 0 (head ++ box) (n counted ∷ []) two second.put-bytes2.ensures (omega arith) in
@@ -103,13 +93,13 @@ module _ (c : tie.After-put-bytes3) where
       four ∙ ap (sets start 0) whole
 
   size : length all ≡ 1 + counted.before.count-place.result + 1 + n counted
-  size = omega (arith, length_bytes_of_row fs r refl refl, counted.before.count-place.ensures.0, ap length (own counted), long counted)
+  size = omega (arith, length_bytes_of_row ws r refl refl, counted.before.count-place.ensures, ap length (own counted), long counted)
 
 pub write_spec : {M : Type 1} → statement M
 write_spec =
     tie.close
     (tie.spec
-    (λ c κs. search rules) (λ c. search rules) (λ c κs. search rules) (λ c κs. search rules)
+    (λ c κs. search rules) (λ c. search rules) (λ c κs. search rules)
     (λ c. search rules)
     (λ c κs. search rules)
     (λ c. search rules)
@@ -117,11 +107,11 @@ write_spec =
     (λ c. search rules)
     (λ c. search rules)
     (λ c κs. search rules)
-    (λ c. few c.before.before.before.before.before.before.before.before.before.before.before.before.before.before.before.before)
-    (λ c. long c.before.before.before.before.before.before.before.before.before.before.before.before.before.before.before.before.before)
+    (λ c. few c.before.before.before.before.before.before.before.before.before.before.before.before.before.before.before)
+    (λ c. long c.before.before.before.before.before.before.before.before.before.before.before.before.before.before.before.before)
     (λ c. search rules)
     (λ c κs.
-    let k = c.before.before.before.before.before.before.before.before.before.before.before.before.before.before.before.before.before.before in
+    let k = c.before.before.before.before.before.before.before.before.before.before.before.before.before.before.before.before.before in
     let a = long k in
     let b = k.gateway-count.ensures.1 in
     search rules)
