@@ -4,7 +4,7 @@
 use Prim.Native.Nat.{ℕ, zero, suc, ◌+◌, ◌<◌}
 use mathlib.Core.Path.{◌≡◌, refl}
 use mathlib.Core.Bool.{Bool, true, not, ◌&&◌}
-use mathlib.Core.Logic.{inl, inr}
+use mathlib.Core.Logic.{◌⊎◌, inl, inr}
 use mathlib.Core.List.Memᴰ
 use mathlib.Core.List.{List, [], ◌∷◌, ◌++◌, Memᴰ}
 use native.Mathlib.Omega.{arith}
@@ -58,7 +58,7 @@ module _ {A : Type 0} (whole : List A → Bool) (test : A → Bool) (none : whol
   one_fails [] = rw none (decides_false (λ h. Memᴰ.not-nil h.1))
   one_fails (x ∷ l) =
       rw (more x l)
-      (decides_as
+      (decides_as {P = Bad x ⊎ ((y : A) × Memᴰ y l × Bad y)}
       (λ s. elim s [ inl b ↦ (x, Memᴰ.head refl, b) | inr h ↦ (h.0, Memᴰ.tail h.1, h.2) ])
       (λ h. elim (Memᴰ.cases_cons h.1) [ inl e ↦ inl (rw (← e) h.2) | inr m ↦ inr (h.0, m, h.2) ])
       (decides_not_and (test x) (whole l) (each x) (one_fails l)))

@@ -8,9 +8,9 @@ use Rattle.hexlines.proofs.byte.Tie as tie
 
 returns : tie.Need-returns
 returns c =
-    let pair = c.before.before.args in
-    let first : c.before.digit.result ≡ digit_value pair.a = c.before.digit.ensures in
-    let second : c.digit2.result ≡ digit_value pair.b = c.digit2.ensures in
+    let pair = c.args in
+    let first : c.digit.result ≡ digit_value pair.a = c.digit.ensures in
+    let second : c.digit-2.result ≡ digit_value pair.b = c.digit-2.ensures in
     λ i. 16 * (first i % 16) + second i % 16
 
 pub byte_spec : {M : Type 1} → statement M

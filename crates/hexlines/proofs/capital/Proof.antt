@@ -12,5 +12,5 @@ capital_spec =
     tie.close
     (tie.spec
     (λ c. search rules) (λ c. search rules)
-    (λ c. simp (lt-ltb _ _ c.if1.true) refl)
-    (λ c. simp (le-ltb _ _ c.if1.false) refl))
+    (λ c. simp (lt-ltb _ _ c.if-v-lt10.true) refl)
+    (λ c. simp (le-ltb _ _ c.if-v-lt10.false) refl))

@@ -7,26 +7,26 @@ use Rattle.hexlines.proofs.Laws.Digits.{decimal_value, capital_value, small_valu
 use Rattle.hexlines.proofs.digit.Statement.{statement}
 use Rattle.hexlines.proofs.digit.Tie as tie
 
-decimal : tie.Need-returns
-decimal c = omega (arith, decimal_value c.before.before.args.c (omega arith, omega arith))
+decimal : tie.Need-returns-in-48-to-57
+decimal c = omega (arith, decimal_value c.args.c (omega arith, omega arith))
 
-capital : tie.Need-returns-2
-capital c = omega (arith, capital_value c.before.before.before.before.args.c (omega arith, omega arith))
+capital : tie.Need-returns-in-65-to-70
+capital c = omega (arith, capital_value c.args.c (omega arith, omega arith))
 
-small : tie.Need-returns-3
-small c = omega (arith, small_value c.before.before.before.before.before.before.args.c (omega arith, omega arith))
+small : tie.Need-returns-in-97-to-102
+small c = omega (arith, small_value c.args.c (omega arith, omega arith))
 
-before_decimals : tie.Need-returns-4
-before_decimals c = sym (other_value c.before.args.c (λ h. omega arith) (λ h. omega arith) (λ h. omega arith))
+before_decimals : tie.Need-returns-in_default
+before_decimals c = sym (other_value c.args.c (λ h. omega arith) (λ h. omega arith) (λ h. omega arith))
 
-before_capitals : tie.Need-returns-5
-before_capitals c = sym (other_value c.before.before.before.args.c (λ h. omega arith) (λ h. omega arith) (λ h. omega arith))
+before_capitals : tie.Need-returns-in_default-2
+before_capitals c = sym (other_value c.args.c (λ h. omega arith) (λ h. omega arith) (λ h. omega arith))
 
-before_small : tie.Need-returns-6
-before_small c = sym (other_value c.before.before.before.before.before.args.c (λ h. omega arith) (λ h. omega arith) (λ h. omega arith))
+before_small : tie.Need-returns-in_default-3
+before_small c = sym (other_value c.args.c (λ h. omega arith) (λ h. omega arith) (λ h. omega arith))
 
-after_small : tie.Need-returns-7
-after_small c = sym (other_value c.before.before.before.before.before.before.args.c (λ h. omega arith) (λ h. omega arith) (λ h. omega arith))
+after_small : tie.Need-returns-in_default-4
+after_small c = sym (other_value c.args.c (λ h. omega arith) (λ h. omega arith) (λ h. omega arith))
 
 pub digit_spec : {M : Type 1} → statement M
 digit_spec =

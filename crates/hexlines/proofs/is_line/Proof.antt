@@ -12,38 +12,38 @@ use Rattle.hexlines.proofs.Laws.Lines.{all_digits_next}
 use Rattle.hexlines.proofs.is_line.Statement.{statement}
 use Rattle.hexlines.proofs.is_line.Tie as tie
 
-abbrev invariant-loop : tie.invariant-loop
+abbrev invariant-loop : tie.invariant-loop-i
 invariant-loop line digits₀ i₀ digits i = (i ≤ length line) × (is_line line ≡ (digits && all_digits (drop i line)))
 
-abbrev decreases-loop : tie.decreases-loop
+abbrev decreases-loop : tie.decreases-loop-i
 decreases-loop line digits₀ i₀ digits i = length line - i
 
-returns : tie.Need-returns invariant-loop decreases-loop
+returns : tie.Need-returns-then-line-eq0 invariant-loop decreases-loop
 unfolding is_line
-returns c = simp (eq-eqb _ _ c.if1.true)
+returns c = simp (eq-eqb _ _ c.if-line-eq0.true)
 
-returns-2 : tie.Need-returns-2 invariant-loop decreases-loop
+returns-2 : tie.Need-returns-then-line-ne0 invariant-loop decreases-loop
 unfolding is_line
 returns-2 c =
-    let odd : (length c.before.before.before.args.line.now % 2 ≡ 0 → ⊥) = c.if2.true in
-    simp (ne_eqb _ _ c.before.if1.false, ne_eqb _ _ odd)
+    let odd : (length c.args.line.now % 2 ≡ 0 → ⊥) = c.if-line-ne0.true in
+    simp (ne_eqb _ _ c.if-line-eq0.false, ne_eqb _ _ odd)
 
-loop-holds : tie.Need-loop-init invariant-loop decreases-loop
+loop-holds : tie.Need-loop-i-init invariant-loop decreases-loop
 unfolding is_line
-loop-holds c = (search rules, simp (ne_eqb _ _ c.before.if1.false, eq-eqb _ _ c.if2.false))
+loop-holds c = (search rules, simp (ne_eqb _ _ c.if-line-eq0.false, eq-eqb _ _ c.if-line-ne0.false))
 
-loop-again : tie.Need-loop-preserved invariant-loop decreases-loop
+loop-again : tie.Need-loop-i-preserved invariant-loop decreases-loop
 loop-again c =
     let p = c.before.before in
-    let line = p.before.before.before.before.before.args.line.now in
-    let i = p.before.loop.i in
-    let digits = p.before.loop.digits in
+    let line = p.args.line.now in
+    let i = p.loop-i.i in
+    let digits = p.loop-i.digits in
     let value : c.digit.result ≡ digit_value (get_or line i 0) = c.digit.ensures in
-    let next = all_digits_next line i p.loop-test.true in
-    (search rules, rw value (p.before.loop.invariant.1 ∙ ap (λ rest. digits && rest) next ∙ sym (and_assoc digits _ _)))
+    let next = all_digits_next line i p.loop-i-test.true in
+    (search rules, rw value (p.loop-i.invariant.1 ∙ ap (λ rest. digits && rest) next ∙ sym (and_assoc digits _ _)))
 
-returns-3 : tie.Need-returns-3 invariant-loop decreases-loop
-returns-3 c = sym (c.before.loop.invariant.1 ∙ rw (drop_of_length-le _ c.loop-test.false) (and-true _))
+returns-3 : tie.Need-returns invariant-loop decreases-loop
+returns-3 c = sym (c.loop-i.invariant.1 ∙ rw (drop_of_length-le _ c.loop-i-test.false) (and-true _))
 
 pub is_line_spec : {M : Type 1} → statement M
 is_line_spec =

@@ -9,7 +9,7 @@ use Rattle.hexlines.proofs.number_at.Tie as tie
 
 returns : tie.Need-returns
 returns c =
-    let a = c.before.before.before.args in
+    let a = c.args in
     let e : 2 * (a.i + a.width) - 2 * a.i ≡ 2 * a.width = omega arith in
     c.number.ensures ∙ rw (e, bytes_of_part)
 

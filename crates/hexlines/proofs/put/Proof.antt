@@ -15,14 +15,14 @@ use Rattle.hexlines.specs.Lines.{line_of}
 use Rattle.hexlines.proofs.put.Statement.{statement}
 use Rattle.hexlines.proofs.put.Tie as tie
 
-abbrev I : tie.invariant-loop
+abbrev I : tie.invariant-loop-k
 I bytes out₀ at k₀ out k = (k ≤ length bytes) × (sets out (at + 2 * k) (line_of (drop k bytes)) ≡ sets out₀ at (line_of bytes))
 
-abbrev μ : tie.decreases-loop
+abbrev μ : tie.decreases-loop-k
 μ bytes out₀ at k₀ out k = length bytes - k
 
 -- where the loop begins a turn
-module _ (c : tie.At-loop I μ) where
+module _ (c : tie.At-loop-k I μ) where
   abbrev s : tie.Start I μ
   s = c.before.before.before
 
@@ -32,8 +32,8 @@ module _ (c : tie.At-loop I μ) where
   abbrev out : List ℕ
   out = s.args.out.now
 
-  long : length c.loop.out ≡ length out
-  long = sets_long c.loop.out out (s.args.at + 2 * c.loop.k) s.args.at (line_of (drop c.loop.k bytes)) (line_of bytes) c.loop.invariant.1
+  long : length c.loop-k.out ≡ length out
+  long = sets_long c.loop-k.out out (s.args.at + 2 * c.loop-k.k) s.args.at (line_of (drop c.loop-k.k bytes)) (line_of bytes) c.loop-k.invariant.1
 
 -- One byte's digits more.
 stored : (out bytes : List ℕ) (at k high low : ℕ) → k < length bytes → high ≡ digit_of (get_or bytes k 0 / 16) → low ≡ digit_of (get_or bytes k 0 % 16)
@@ -43,16 +43,16 @@ stored out bytes at k high low h x y =
     let two : at + 2 * (k + 1) ≡ suc (suc (at + 2 * k)) = omega arith in
     rw (drop-cons bytes k 0 h, one, two, add-one k, x, y)
 
-again : tie.Need-loop-preserved I μ
+again : tie.Need-loop-k-preserved I μ
 again c =
     let l = c.before.before.before.before in
-    let h = c.before.before.before.loop-test.true in
-    (search rules, stored l.loop.out (bytes l) (s l).args.at l.loop.k _ _ h c.before.high_digit.ensures c.low_digit.ensures ∙ l.loop.invariant.1)
+    let h = c.loop-k-test.true in
+    (search rules, stored l.loop-k.out (bytes l) (s l).args.at l.loop-k.k _ _ h c.high_digit.ensures c.low_digit.ensures ∙ l.loop-k.invariant.1)
 
 returns : tie.Need-returns I μ
 returns c =
     let l = c.before in
-    rw (drop_of_length-le (bytes l) c.loop-test.false) at l.loop.invariant.1
+    rw (drop_of_length-le (bytes l) c.loop-k-test.false) at l.loop-k.invariant.1
 
 pub put_spec : {M : Type 1} → statement M
 put_spec =
