@@ -17,7 +17,7 @@ use relations::group;
 use relations::group::{Outcome, Probe};
 
 // What Check answers: the counts of entities, filters and rows, or a refusal.
-#[derive(Drop)]
+#[derive(Clone, Copy)]
 pub enum Checked {
     Counts {
         entities: usize,
@@ -31,14 +31,14 @@ pub enum Checked {
 }
 
 // What a call that writes answers: how many it wrote, things of a list (List, Prefixes) or bytes of lines (Strike, Join), or a refusal.
-#[derive(Drop)]
+#[derive(Clone, Copy)]
 pub enum Counted {
     Count(usize),
     Refused { number: u8, line: u8 },
 }
 
 // What Winner answers: the winning row's number, nobody, or a refusal.
-#[derive(Drop)]
+#[derive(Clone, Copy)]
 pub enum Winner {
     Row(usize),
     Nobody,

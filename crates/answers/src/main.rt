@@ -43,7 +43,7 @@ const JOINED: usize = 255;
 const PREFIXES: usize = 512;
 
 // A call that is asked of each row.
-#[derive(Drop)]
+#[derive(Clone, Copy)]
 enum RowCall {
     Line,
     Witness,
@@ -51,7 +51,7 @@ enum RowCall {
 }
 
 // A call that is asked questions.
-#[derive(Drop)]
+#[derive(Clone, Copy)]
 enum Call {
     Winner,
     Join,

@@ -3,7 +3,7 @@ ghost use Rattle.std.specs.Prelude.{◌≡◌};
 ghost use Rattle.base.specs.Truths.{bit as bit_of};
 
 // What becomes of a result that is written to a caller's output: how many it is, bytes of a text or things of a list, or that the output is shorter.
-#[derive(Drop)]
+#[derive(Clone, Copy)]
 pub enum Written {
     Count(usize),
     Short,

@@ -9,7 +9,7 @@ use covers::Found;
 use policy::selector::Packet;
 
 // What Witness and Mesh answer: that the row is dead, its least packet, or a refusal.
-#[derive(Drop)]
+#[derive(Clone, Copy)]
 pub enum Witness {
     Dead,
     Packet(Packet),

@@ -17,21 +17,21 @@ use policy::table::{Bounds, Heads, PerEntity};
 use relations::{entity, group};
 
 // Boxes, by the numbers of their selectors.
-#[derive(Drop)]
+#[derive(Clone, Copy)]
 pub struct Boxes {
     pub at: [u8; ROWS],
     pub count: usize,
 }
 
 // What is found of a row and boxes: the row's least packet that no box has, or that each packet is in one.
-#[derive(Drop)]
+#[derive(Clone, Copy)]
 pub enum Found {
     Packet(Packet),
     Nothing,
 }
 
 // The next value of a field, or that there is none.
-#[derive(Drop)]
+#[derive(Clone, Copy)]
 pub enum Next {
     Value(Number),
     End,

@@ -13,7 +13,7 @@ use policy::table::PerEntity;
 use relations::{coefficients, entity, group, selector, technology};
 
 // How row i stands to row j.
-#[derive(Drop)]
+#[derive(Clone, Copy)]
 pub struct Pair {
     // one holder; i is earlier besides; i is earlier, and holder, t and G are equal
     pub holder: bool,

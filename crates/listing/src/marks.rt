@@ -118,7 +118,7 @@ pub fn of_pairs<'a>(
 }
 
 // Row i of `rows` rows, beside `filters` filters, and the caps and the floor that it is held to.
-#[derive(Drop)]
+#[derive(Clone, Copy)]
 pub struct Alone {
     pub caps: Caps,
     pub floor: Coefficients,

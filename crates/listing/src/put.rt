@@ -12,7 +12,7 @@ use kinds::numbers;
 use policy::limits::ROWS;
 
 // A block of entries is of `things` things, rows or filters, and of `kinds` kinds from `kind` on.
-#[derive(Drop)]
+#[derive(Clone, Copy)]
 pub struct Block {
     pub things: usize,
     pub kind: u8,

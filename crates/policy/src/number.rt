@@ -7,7 +7,7 @@ ghost use Rattle.policy.specs.Words.{word_size, of_words};
 ghost use Rattle.policy.specs.Views.{value};
 
 // Two words; the upper one is the more significant.
-#[derive(Drop)]
+#[derive(Clone, Copy)]
 pub struct Number {
     upper: u64,
     lower: u64,

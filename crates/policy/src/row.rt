@@ -5,14 +5,14 @@ ghost use Rattle.policy.specs.Limits.{most_gateways};
 use crate::limits::GATEWAYS;
 use crate::selector::Selector;
 
-#[derive(Drop)]
+#[derive(Clone, Copy)]
 pub struct Entity {
     pub parent: u8,
     pub layer: u8,
     pub mask: u8,
 }
 
-#[derive(Drop)]
+#[derive(Clone, Copy)]
 pub struct Coefficients {
     pub header: u8,
     pub payload: u8,
@@ -20,7 +20,7 @@ pub struct Coefficients {
 }
 
 // The root drops packets in the selector, or passes them, by the action.
-#[derive(Drop)]
+#[derive(Clone, Copy)]
 pub struct Filter {
     pub root: u8,
     pub selector: Selector,
@@ -31,7 +31,7 @@ pub struct Filter {
 pub type Gateways = [u8; GATEWAYS];
 
 // The gateways are the first `count` of the array.
-#[derive(Drop)]
+#[derive(Clone, Copy)]
 pub struct Row {
     pub holder: u8,
     pub source: u8,

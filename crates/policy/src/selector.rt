@@ -1,14 +1,14 @@
 // Ranges, selectors and packets.
 use crate::number::Number;
 
-#[derive(Drop)]
+#[derive(Clone, Copy)]
 pub struct Range {
     pub low: Number,
     pub high: Number,
 }
 
 // Document 01's box: a range for each field.
-#[derive(Drop)]
+#[derive(Clone, Copy)]
 pub struct Selector {
     pub source_address: Range,
     pub destination_address: Range,
@@ -18,7 +18,7 @@ pub struct Selector {
 }
 
 // A number for each field.
-#[derive(Drop)]
+#[derive(Clone, Copy)]
 pub struct Packet {
     pub source_address: Number,
     pub destination_address: Number,

@@ -16,7 +16,7 @@ use policy::selector::Range;
 pub const ADDRESS_BYTES: usize = 4;
 
 // A range of addresses, and how many bits each has.
-#[derive(Drop)]
+#[derive(Clone, Copy)]
 struct Addresses {
     range: Range,
     bits: usize,

@@ -13,14 +13,14 @@ use policy::table;
 use policy::table::{Bounds, Heads, PerEntity};
 
 // Who wins a probe: the row of this number, or nobody.
-#[derive(Drop)]
+#[derive(Clone, Copy)]
 pub enum Outcome {
     Won(usize),
     Nobody,
 }
 
 // Two entities and a packet.
-#[derive(Drop)]
+#[derive(Clone, Copy)]
 pub struct Probe {
     pub source: u8,
     pub destination: u8,

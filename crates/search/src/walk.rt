@@ -17,7 +17,7 @@ use policy::table;
 use policy::table::Bounds;
 
 // The values of the fields, in the order of the walk.
-#[derive(Drop)]
+#[derive(Clone, Copy)]
 pub struct Values {
     pub first: Number,
     pub second: Number,
@@ -27,7 +27,7 @@ pub struct Values {
 }
 
 // How a walk ends: with the least packet, in its order of the fields, that no box has; with each packet in a box; or stopped by its limit.
-#[derive(Drop)]
+#[derive(Clone, Copy)]
 pub enum Ended {
     Free(Values),
     Covered,

@@ -8,24 +8,24 @@ use borrow.Author.Rules.{rules}
 use Rattle.policy.proofs.number.byte_of.Statement.{statement}
 use Rattle.policy.proofs.number.byte_of.Tie as tie
 
-abbrev invariant-loop : tie.invariant-loop
+abbrev invariant-loop : tie.invariant-loop-i
 invariant-loop word k rest₀ i₀ rest i = (i ≤ k) × (rest ≡ word / (256 ^ i))
 
-abbrev decreases-loop : tie.decreases-loop
+abbrev decreases-loop : tie.decreases-loop-i
 decreases-loop word k rest₀ i₀ rest i = k - i
 
-loop-holds : tie.Need-loop-init invariant-loop decreases-loop
+loop-holds : tie.Need-loop-i-init invariant-loop decreases-loop
 loop-holds c = (omega arith, sym (div-one _))
 
-loop-again : tie.Need-loop-preserved invariant-loop decreases-loop
+loop-again : tie.Need-loop-i-preserved invariant-loop decreases-loop
 loop-again c =
     let s = c.before in
-    (omega arith, rw (add-one s.loop.i, pow-suc 256 s.loop.i) (ap (λ (w : ℕ). w / 256) s.loop.invariant.1 ∙ div-div-eq-div-mul _ (256 ^ s.loop.i) 256))
+    (omega arith, rw (add-one s.loop-i.i, pow-suc 256 s.loop-i.i) (ap (λ (w : ℕ). w / 256) s.loop-i.invariant.1 ∙ div-div-eq-div-mul _ (256 ^ s.loop-i.i) 256))
 
 returns : tie.Need-returns invariant-loop decreases-loop
 returns c =
-    let e : c.before.loop.i ≡ c.before.before.args.k = omega arith in
-    rw (← e) (ap (λ (w : ℕ). w % 256) c.before.loop.invariant.1)
+    let e : c.loop-i.i ≡ c.args.k = omega arith in
+    rw (← e) (ap (λ (w : ℕ). w % 256) c.loop-i.invariant.1)
 
 pub byte_of_spec : {M : Type 1} → statement M
 byte_of_spec =

@@ -4,7 +4,7 @@ use Rattle.policy.proofs.table.filter_at.Statement.{statement}
 use Rattle.policy.proofs.table.filter_at.Tie as tie
 
 returns : tie.Need-returns
-returns c = rw c.before.selector_at.ensures
+returns c = rw c.selector_at.ensures
 
 pub filter_at_spec : {M : Type 1} → statement M
 filter_at_spec =

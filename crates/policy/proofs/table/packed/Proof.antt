@@ -35,9 +35,9 @@ packed_spec =
     tie.close
     (tie.spec
     (λ c κs. search rules)
-    (λ c. record { fits = rw (c.lower_word.ensures, low_word c.before) (let h = room c.before in omega arith) })
+    (λ c. record { fits = rw (c.lower_word.ensures, low_word c.before.before) (let h = room c.before.before in omega arith) })
     (λ c κs. search rules)
     (λ c.
     let s = c.before.before in
-    record { fits = rw (c.lower-word2.ensures, c.before.lower_word.ensures, low_word s, high_word s) (room s) })
-    (λ c. rw (c.lower-word2.ensures, c.before.lower_word.ensures, low_word c.before.before, high_word c.before.before)))
+    record { fits = rw (c.lower_word-2.ensures, c.lower_word.ensures, low_word s.before.before, high_word s.before.before) (room s.before.before) })
+    (λ c. rw (c.lower_word-2.ensures, c.lower_word.ensures, low_word c.before.before.before.before, high_word c.before.before.before.before)))

@@ -12,27 +12,27 @@ use Rattle.policy.specs.Limits.{head_count}
 use Rattle.policy.proofs.table.put_head.Statement.{statement}
 use Rattle.policy.proofs.table.put_head.Tie as tie
 
-abbrev invariant-loop : tie.invariant-loop
+abbrev invariant-loop : tie.invariant-loop-c
 invariant-loop heads₀ i head h c₀ heads c = (c ≤ head_count) × (sets heads (h + c) (drop c head) ≡ sets heads₀ h head)
 
-abbrev decreases-loop : tie.decreases-loop
+abbrev decreases-loop : tie.decreases-loop-c
 decreases-loop heads₀ i head h c₀ heads c = head_count - c
 
-loop-holds : tie.Need-loop-init invariant-loop decreases-loop
+loop-holds : tie.Need-loop-c-init invariant-loop decreases-loop
 loop-holds c = (search rules, rw add-zero)
 
-loop-again : tie.Need-loop-preserved invariant-loop decreases-loop
+loop-again : tie.Need-loop-c-preserved invariant-loop decreases-loop
 loop-again c =
-    let head = c.before.before.args.t3 in
-    let k : c.before.loop.c < length head = search rules in
-    (search rules, rw (add-one, add-suc) (rw (drop-cons head c.before.loop.c 0 k) at c.before.loop.invariant.1))
+    let head = c.args.head in
+    let k : c.loop-c.c < length head = search rules in
+    (search rules, rw (add-one, add-suc) (rw (drop-cons head c.loop-c.c 0 k) at c.loop-c.invariant.1))
 
 returns : tie.Need-returns invariant-loop decreases-loop
 returns c =
-    let head = c.before.before.args.t3 in
-    let e : c.before.loop.c ≡ head_count = omega arith in
+    let head = c.args.head in
+    let e : c.loop-c.c ≡ head_count = omega arith in
     let k : length head ≤ head_count = search rules in
-    rw (e, drop_of_length-le head k) at c.before.loop.invariant.1
+    rw (e, drop_of_length-le head k) at c.loop-c.invariant.1
 
 pub put_head_spec : {M : Type 1} → statement M
 put_head_spec =

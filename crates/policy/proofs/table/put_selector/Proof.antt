@@ -27,17 +27,17 @@ returns c =
     let q = p.before in
     let s = q.before.before.before.before.before.before.before.before.before.before in
     rw (
-      c.packed3.ensures,
-      c.before.packed2.ensures,
+      c.packed-3.ensures,
+      c.packed-2.ensures,
       p.packed.ensures,
-      q.lower-word4.ensures,
-      q.before.upper-word4.ensures,
-      q.before.before.lower-word3.ensures,
-      q.before.before.before.upper-word3.ensures,
-      q.before.before.before.before.lower-word2.ensures,
-      q.before.before.before.before.before.upper-word2.ensures,
-      q.before.before.before.before.before.before.lower_word.ensures,
-      q.before.before.before.before.before.before.before.upper-word.ensures,
+      q.lower_word-4.ensures,
+      q.upper_word-4.ensures,
+      q.lower_word-3.ensures,
+      q.upper_word-3.ensures,
+      q.lower_word-2.ensures,
+      q.upper_word-2.ensures,
+      q.lower_word.ensures,
+      q.upper_word.ensures,
     )
     (ten s.args.bounds.now (word_count * s.args.k) (λ c. get_or (words_of (selector_of s.args.s)) c 0))
 

@@ -7,30 +7,30 @@ use Rattle.policy.proofs.Laws.Runs.{address_range}
 use Rattle.policy.proofs.table.range_at.Statement.{statement}
 use Rattle.policy.proofs.table.range_at.Tie as tie
 
-returns : tie.Need-returns
+returns : tie.Need-returns-then-f-lt2
 returns c =
     let s = c.before.before.before.before.before.before.before in
-    rw (c.of-words2.ensures, c.before.before.before.of_words.ensures)
-    (address_range _ s.args.k s.args.f c.before.before.before.before.before.before.if1.true)
+    rw (c.of_words-then-f-lt2.ensures, c.of_words.ensures)
+    (address_range _ s.args.k s.args.f c.if-f-lt2.true)
 
-returns-2 : tie.Need-returns-2
+returns-2 : tie.Need-returns-then-f-eq2
 unfolding range_in numbers_at
-returns-2 c = rw c.before.before.if2.true c.unpacked.ensures
+returns-2 c = rw c.if-f-eq2.true c.unpacked.ensures
 
-returns-3 : tie.Need-returns-3
+returns-3 : tie.Need-returns-then-f-eq3
 unfolding range_in numbers_at
-returns-3 c = rw c.before.before.if3.true c.unpacked2.ensures
+returns-3 c = rw c.if-f-eq3.true c.unpacked-then-f-eq3.ensures
 
-returns-4 : tie.Need-returns-4
+returns-4 : tie.Need-returns
 unfolding range_in numbers_at
 returns-4 c =
     let s = c.before.before.before.before.before in
     let last : s.args.f ≡ 4 =
-    let a = c.before.before.before.before.if1.false in
-    let b = c.before.before.before.if2.false in
-    let d = c.before.before.if3.false in
+    let a = c.if-f-lt2.false in
+    let b = c.if-f-eq2.false in
+    let d = c.if-f-eq3.false in
     omega (arith, s.requires.1) in
-    rw last c.unpacked3.ensures
+    rw last c.unpacked-2.ensures
 
 pub range_at_spec : {M : Type 1} → statement M
 range_at_spec =

@@ -15,7 +15,7 @@ alike r q h s d t c b g = λ i. record { holder = h i; source = s i; destination
 returns : tie.Need-returns
 unfolding numbers_at
 returns c =
-    alike _ _ (rw add-zero) refl refl refl refl c.before.before.before.before.before.before.before.before.before.selector_at.ensures refl
+    alike _ _ (rw add-zero) refl refl refl refl c.selector_at.ensures refl
 
 pub row_at_spec : {M : Type 1} → statement M
 row_at_spec =

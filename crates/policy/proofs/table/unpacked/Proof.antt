@@ -4,7 +4,7 @@ use Rattle.policy.proofs.table.unpacked.Statement.{statement}
 use Rattle.policy.proofs.table.unpacked.Tie as tie
 
 returns : tie.Need-returns
-returns c = rw (c.new2.ensures, c.before.new.ensures)
+returns c = rw (c.new-2.ensures, c.new.ensures)
 
 pub unpacked_spec : {M : Type 1} → statement M
 unpacked_spec =

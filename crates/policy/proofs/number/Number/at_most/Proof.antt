@@ -9,7 +9,7 @@ use Rattle.policy.proofs.number.Number.at_most.Tie as tie
 returns : tie.Need-returns
 unfolding value
 returns c =
-    let a = c.before.before.before.before.before.before.args in
+    let a = c.args in
     order_test word_size a.self.upper a.other.upper a.self.lower a.other.lower (search rules) (search rules)
 
 pub at_most_spec : {M : Type 1} → statement M

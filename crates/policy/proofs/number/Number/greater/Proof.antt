@@ -1,6 +1,5 @@
 -- `Number::greater` meets its contract: each way is what the test says, and the upper words are in the order of the numbers. Assumes nothing.
 use mathlib.Core.Path.{◌≡◌, sym, ◌∙◌}
-use mathlib.Core.Logic.{⊎_elim}
 use Prim.Native.Nat.{◌<◌, max}
 use native.Mathlib.Nat.{max_comm, le_of_lt}
 use native.Mathlib.Omega.{arith}
@@ -11,30 +10,31 @@ use Rattle.policy.specs.Views.{value}
 use Rattle.policy.proofs.Laws.Words.{greater_of}
 use Rattle.policy.proofs.number.Number.greater.Statement.{statement}
 use Rattle.policy.proofs.number.Number.greater.Tie as tie
+use Rattle.policy.proofs.number.Number.greater.Lts.{then-self-other, else-self-other}
 
 -- the upper word that was chosen
-chosen : (c : tie.Joined1) → c.if1.t7 ≡ max c.before.args.self.upper c.before.args.other.upper
+chosen : (c : tie.Joined-self-other) → c.if-self-other.result ≡ max c.args.self.upper c.args.other.upper
 chosen c =
-    ⊎_elim (λ w. let h = w.0.taken in let e = w.1 in omega arith) (λ w. let h = w.0.left in let e = w.1 in omega arith) c.if1.branch
+    elim c.if-self-other.branch [ then-self-other w ↦ omega arith | else-self-other w ↦ omega arith ]
 
-returns : tie.Need-returns
+returns : tie.Need-returns-then-at_most
 unfolding value
 returns c =
     let j = c.before.before in
-    let a = j.before.args in
+    let a = j.args in
     let l : a.self.lower < word_size = search rules in
     let m : a.other.lower < word_size = search rules in
-    let h = leb-true (value a.self) (value a.other) (sym c.before.at_most.ensures ∙ c.if2.true) in
+    let h = leb-true (value a.self) (value a.other) (sym c.at_most.ensures ∙ c.if-at_most.true) in
     rw (chosen j) (greater_of word_size a.self.upper a.other.upper a.self.lower a.other.lower l m h)
 
-returns-2 : tie.Need-returns-2
+returns-2 : tie.Need-returns-else-at_most
 unfolding value
 returns-2 c =
     let j = c.before.before in
-    let a = j.before.args in
+    let a = j.args in
     let l : a.self.lower < word_size = search rules in
     let m : a.other.lower < word_size = search rules in
-    let h = leb-false (value a.self) (value a.other) (sym c.before.at_most.ensures ∙ c.if2.false) in
+    let h = leb-false (value a.self) (value a.other) (sym c.at_most.ensures ∙ c.if-at_most.false) in
     rw (chosen j, max_comm a.self.upper a.other.upper)
     (greater_of word_size a.other.upper a.self.upper a.other.lower a.self.lower m l (le_of_lt h) ∙ max_comm _ _)
 

@@ -8,7 +8,7 @@ use Rattle.policy.proofs.number.Number.last_bit.Tie as tie
 
 returns : tie.Need-returns
 unfolding value
-returns c = let n = c.before.args.self in last_of (2 ^ 63) n.upper n.lower
+returns c = let n = c.args.self in last_of (2 ^ 63) n.upper n.lower
 
 pub last_bit_spec : {M : Type 1} → statement M
 last_bit_spec = tie.close (tie.spec (λ c. search rules) returns)

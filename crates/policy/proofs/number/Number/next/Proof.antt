@@ -10,21 +10,21 @@ use Rattle.policy.proofs.number.Number.next.Statement.{statement}
 use Rattle.policy.proofs.number.Number.next.Tie as tie
 
 -- where the lower word is the last one, the upper is below the limit's
-module _ (c : tie.After-struct-known2) where
-  below : c.before.before.before.args.self.upper < c.before.before.before.args.limit.upper
+module _ (c : tie.After-struct_known-then-self-eq-LAST_WORD-1) where
+  below : c.args.self.upper < c.args.limit.upper
   unfolding value
   below =
-      let a = c.before.before.before.args in
+      let a = c.args in
       let m : a.limit.lower < word_size = search rules in
-      room_above word_size a.self.upper a.limit.upper a.self.lower a.limit.lower c.before.before.before.requires (rw c.before.if1.true) m
+      room_above word_size a.self.upper a.limit.upper a.self.lower a.limit.lower c.requires (rw c.if-self-eq-LAST_WORD.true) m
 
-returns : tie.Need-returns
+returns : tie.Need-returns-then-self-eq-LAST_WORD
 unfolding value
 returns c =
-    let n = c.before.before.before.args.self in
-    rw (add-one n.upper) (after_last word_size n.upper n.lower (rw c.before.if1.true))
+    let n = c.args.self in
+    rw (add-one n.upper) (after_last word_size n.upper n.lower (rw c.if-self-eq-LAST_WORD.true))
 
-returns-2 : tie.Need-returns-2
+returns-2 : tie.Need-returns
 unfolding value
 returns-2 c = rw (add-one, add-suc)
 

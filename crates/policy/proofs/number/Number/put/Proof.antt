@@ -14,21 +14,21 @@ use Rattle.policy.specs.Views.{value}
 use Rattle.policy.proofs.number.Number.put.Statement.{statement}
 use Rattle.policy.proofs.number.Number.put.Tie as tie
 
-abbrev I : tie.invariant-loop
+abbrev I : tie.invariant-loop-k
 I n width bytes₀ at k₀ bytes k = (k ≤ width) × (sets bytes (at + k) (number_bytes (width - k) (value n)) ≡ sets bytes₀ at (number_bytes width (value n)))
 
-abbrev μ : tie.decreases-loop
+abbrev μ : tie.decreases-loop-k
 μ n width bytes₀ at k₀ bytes k = width - k
 
 -- where a turn begins
-module _ (c : tie.At-loop I μ) where
+module _ (c : tie.At-loop-k I μ) where
   abbrev s : tie.Start I μ
   s = c.before.before
 
-  long : length c.loop.bytes ≡ length s.args.bytes.now
+  long : length c.loop-k.bytes ≡ length s.args.bytes.now
   long =
-      sets_long c.loop.bytes s.args.bytes.now (s.args.at + c.loop.k) s.args.at (number_bytes (s.args.width - c.loop.k) (value s.args.self))
-      (number_bytes s.args.width (value s.args.self)) c.loop.invariant.1
+      sets_long c.loop-k.bytes s.args.bytes.now (s.args.at + c.loop-k.k) s.args.at (number_bytes (s.args.width - c.loop-k.k) (value s.args.self))
+      (number_bytes s.args.width (value s.args.self)) c.loop-k.invariant.1
 
 -- One byte more.
 stored : (bytes : List ℕ) (at k width n b : ℕ) → k < width → b ≡ (n / 256 ^ (width - 1 - k)) % 256
@@ -42,8 +42,8 @@ stored bytes at k width n b h e =
 returns : tie.Need-returns I μ
 returns c =
     let l = c.before in
-    let e : (s l).args.width - l.loop.k ≡ 0 = omega (arith, l.loop.invariant.0, c.loop-test.false) in
-    rw e at l.loop.invariant.1
+    let e : (s l).args.width - l.loop-k.k ≡ 0 = omega (arith, l.loop-k.invariant.0, c.loop-k-test.false) in
+    rw e at l.loop-k.invariant.1
 
 pub put_spec : {M : Type 1} → statement M
 put_spec =
@@ -55,6 +55,6 @@ put_spec =
     (λ c. search rules) (λ c. search rules) (λ c κs. search rules) (λ c. search rules)
     (λ c. let l = c.before.before in let e = long l in let h = (s l).requires in search rules)
     (λ c. search rules) (λ c. search rules)
-    (λ c. let l = c.before.before in (search rules, stored l.loop.bytes (s l).args.at l.loop.k _ _ _ c.before.loop-test.true c.byte.ensures ∙ l.loop.invariant.1))
+    (λ c. let l = c.before.before in (search rules, stored l.loop-k.bytes (s l).args.at l.loop-k.k _ _ _ c.loop-k-test.true c.byte.ensures ∙ l.loop-k.invariant.1))
     (λ c. long c.before)
     returns)

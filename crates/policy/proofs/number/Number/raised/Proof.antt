@@ -35,17 +35,17 @@ module _ (c : tie.Start) where
       le_below x y z h g = omega arith
 
 -- by less than a word
-module _ (c : tie.Then1) where
+module _ (c : tie.Then-k-lt-WORD_BITS) where
   abbrev s : tie.Start
   s = c.before
 
   -- the two powers that make the word's size
   whole : 2 ^ k s * 2 ^ (64 - k s) ≡ word_size
-  whole = let e : k s + (64 - k s) ≡ 64 = let h = c.if1.true in omega arith in sym (pow-add 2 (k s) (64 - k s)) ∙ ap (λ (x : ℕ). 2 ^ x) e
+  whole = let e : k s + (64 - k s) ≡ 64 = let h = c.if-k-lt-WORD_BITS.true in omega arith in sym (pow-add 2 (k s) (64 - k s)) ∙ ap (λ (x : ℕ). 2 ^ x) e
 
   over : lower s / 2 / 2 ^ (63 - k s) ≡ lower s / 2 ^ (64 - k s)
   over =
-      let e : 1 + (63 - k s) ≡ 64 - k s = let h = c.if1.true in omega arith in
+      let e : 1 + (63 - k s) ≡ 64 - k s = let h = c.if-k-lt-WORD_BITS.true in omega arith in
       shr-shr (lower s) 1 (63 - k s) ∙ ap (λ (x : ℕ). lower s / 2 ^ x) e
 
   small : upper s * 2 ^ k s + lower s / 2 ^ (64 - k s) < word_size
@@ -65,32 +65,32 @@ module _ (c : tie.Then1) where
       ≡ (upper s * word_size + lower s) * 2 ^ k s
   raised_same = rw (exact, over) (rw whole at (shifted (2 ^ k s) (2 ^ (64 - k s)) (upper s) (lower s) (pow_pos (k s))))
 
-returns : tie.Need-returns
+returns : tie.Need-returns-then-k-lt-WORD_BITS
 unfolding value
 returns c = raised_same c.before.before.before
 
 -- by a word and more
-module _ (c : tie.Then2) where
+module _ (c : tie.Then-k) where
   abbrev s2 : tie.Start
   s2 = c.before.before
 
   parts : 2 ^ k s2 ≡ word_size * 2 ^ (k s2 - 64)
-  parts = let e : k s2 ≡ 64 + (k s2 - 64) = let h = c.before.if1.false in omega arith in ap (λ (x : ℕ). 2 ^ x) e ∙ pow-add 2 64 (k s2 - 64)
+  parts = let e : k s2 ≡ 64 + (k s2 - 64) = let h = c.if-k-lt-WORD_BITS.false in omega arith in ap (λ (x : ℕ). 2 ^ x) e ∙ pow-add 2 64 (k s2 - 64)
 
   digit : (lower s2 * 2 ^ (k s2 - 64) < word_size) × (lower s2 * 2 ^ (k s2 - 64) * word_size + 0 ≡ (upper s2 * word_size + lower s2) * (word_size * 2 ^ (k s2 - 64)))
   digit =
       let l : lower s2 < word_size = search rules in
       shifted_digit word_size (2 ^ (k s2 - 64)) (upper s2) (lower s2) (pow_pos (k s2 - 64)) l (rw parts at (bounded s2))
 
-returns-2 : tie.Need-returns-2
+returns-2 : tie.Need-returns-then-k
 unfolding value
 returns-2 c = let d = digit c.before in rw (parts c.before, mod-eq_of_lt d.0) d.1
 
-returns-3 : tie.Need-returns-3
+returns-3 : tie.Need-returns
 unfolding value
 returns-3 c =
     let t = c.before.before.before in
-    let large : word_size * word_size ≤ 2 ^ k t = rw (sym (pow-add 2 64 64)) (pow_mono {i = 64 + 64} {j = k t} (let h = c.before.if2.false in omega arith)) in
+    let large : word_size * word_size ≤ 2 ^ k t = rw (sym (pow-add 2 64 64)) (pow_mono {i = 64 + 64} {j = k t} (let h = c.if-k.false in omega arith)) in
     c.new.ensures ∙ shifted_out (word_size * word_size) (2 ^ k t) (upper t * word_size + lower t) large (bounded t)
 
 pub raised_spec : {M : Type 1} → statement M

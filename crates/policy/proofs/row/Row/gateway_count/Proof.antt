@@ -11,12 +11,12 @@ use Rattle.policy.proofs.row.Row.gateway_count.Tie as tie
 eight : (c : tie.Start) → length c.args.self.gateways ≡ most_gateways
 eight c = search rules
 
-few : tie.Need-returns
+few : tie.Need-returns-then-n-lt-GATEWAYS
 few c =
     let e = eight c.before.before in
     simp length-take (omega arith)
 
-many : tie.Need-returns-2
+many : tie.Need-returns-else-n-lt-GATEWAYS
 many c =
     let e = eight c.before.before in
     simp length-take (omega arith)
