@@ -6,7 +6,7 @@ use Rattle.relations.proofs.coefficients.larger.Tie as tie
 
 returns : tie.Need-returns
 unfolding larger
-returns c = rw (c.larger-byte3.ensures, c.before.larger-byte2.ensures, c.before.before.larger-byte.ensures)
+returns c = rw (c.larger_byte-3.ensures, c.larger_byte-2.ensures, c.larger_byte.ensures)
 
 pub larger_spec : {M : Type 1} → statement M
 larger_spec = tie.close (tie.spec (λ c κs. search rules) (λ c κs. search rules) (λ c κs. search rules) returns)

@@ -4,4 +4,4 @@ use Rattle.relations.proofs.coefficients.larger_byte.Statement.{statement}
 use Rattle.relations.proofs.coefficients.larger_byte.Tie as tie
 
 pub larger_byte_spec : {M : Type 1} → statement M
-larger_byte_spec = tie.close (tie.spec (λ c. omega (arith, c.if1.true)) (λ c. omega (arith, c.if1.false)))
+larger_byte_spec = tie.close (tie.spec (λ c. omega (arith, c.if-x-y.true)) (λ c. omega (arith, c.if-x-y.false)))

@@ -9,7 +9,7 @@ unfolding entity_relation
 returns c =
     let r = c.before in
     let a = r.before.before in
-    rw (← a.before.at-or-above.ensures, ← a.at-or-above2.ensures, ← r.before.root.ensures, ← r.root2.ensures)
+    rw (← a.at_or_above.ensures, ← a.at_or_above-2.ensures, ← r.root.ensures, ← r.root-2.ensures)
     c.by.ensures
 
 pub relation_spec : {M : Type 1} → statement M

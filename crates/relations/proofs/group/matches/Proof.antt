@@ -7,7 +7,7 @@ use Rattle.relations.proofs.group.matches.Tie as tie
 returns : tie.Need-returns
 unfolding matches
 returns c =
-    rw (← c.holds.ensures, ← c.before.at-or-above2.ensures, ← c.before.before.at-or-above.ensures)
+    rw (← c.holds.ensures, ← c.at_or_above-2.ensures, ← c.at_or_above.ensures)
 
 pub matches_spec : {M : Type 1} → statement M
 matches_spec = tie.close (tie.spec (λ c κs. search rules) (λ c κs. search rules) (λ c κs. search rules) returns)

@@ -9,30 +9,30 @@ use Rattle.base.proofs.Laws.Firsts.{below_more, first_differ, first_same}
 use Rattle.relations.proofs.group.same_first.Statement.{statement}
 use Rattle.relations.proofs.group.same_first.Tie as tie
 
-abbrev I : tie.invariant-loop
+abbrev I : tie.invariant-loop-k
 I n a b k₀ k = (k ≤ n) × ((j : ℕ) → j < k → get_or a j 0 ≡ get_or b j 0)
 
-abbrev μ : tie.decreases-loop
+abbrev μ : tie.decreases-loop-k
 μ n a b k₀ k = n - k
 
-differ : tie.Need-returns I μ
+differ : tie.Need-returns-then-a-k I μ
 differ c =
     let l = c.before.before in
-    sym (first_differ _ _ _ l.loop.k c.before.loop-test.true c.if1.true)
+    sym (first_differ _ _ _ l.loop-k.k c.loop-k-test.true c.if-a-k.true)
 
-next : tie.Need-loop-preserved I μ
+next : tie.Need-loop-k-preserved I μ
 next c =
     let l = c.before.before in
-    let a = l.before.args in
-    (search rules, below_more (λ j. get_or a.t1 j 0 ≡ get_or a.t2 j 0) l.loop.k l.loop.invariant.1 c.if1.false)
+    let a = l.args in
+    (search rules, below_more (λ j. get_or a.a j 0 ≡ get_or a.b j 0) l.loop-k.k l.loop-k.invariant.1 c.if-a-k.false)
 
-whole : tie.Need-returns-2 I μ
+whole : tie.Need-returns I μ
 whole c =
-    let l = c.before.loop in
-    let a = c.before.before.args in
-    let x : length a.t1 ≡ most_gateways = search rules in
-    let y : length a.t2 ≡ most_gateways = search rules in
-    sym (first_same a.t1 a.t2 a.n (omega arith) (omega arith) (λ k h. l.invariant.1 k (omega arith)))
+    let l = c.loop-k in
+    let a = c.args in
+    let x : length a.a ≡ most_gateways = search rules in
+    let y : length a.b ≡ most_gateways = search rules in
+    sym (first_same a.a a.b a.n (omega arith) (omega arith) (λ k h. l.invariant.1 k (omega arith)))
 
 pub same_first_spec : {M : Type 1} → statement M
 same_first_spec =

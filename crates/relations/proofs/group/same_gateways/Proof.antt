@@ -5,18 +5,18 @@ use Rattle.base.proofs.Laws.Members.{same_lengths, take_own}
 use Rattle.relations.proofs.group.same_gateways.Statement.{statement}
 use Rattle.relations.proofs.group.same_gateways.Tie as tie
 
-lengths : tie.Need-returns
+lengths : tie.Need-returns-then-n-gateway_count
 lengths c =
-    let x = c.before.before.gateway-count.ensures.0 in
-    let y = c.before.gateway-count2.ensures.0 in
-    sym (same_lengths _ _ (λ e. c.if1.true (x ∙ e ∙ sym y)))
+    let x = c.gateway_count-n.ensures.0 in
+    let y = c.gateway_count.ensures.0 in
+    sym (same_lengths _ _ (λ e. c.if-n-gateway_count.true (x ∙ e ∙ sym y)))
 
-gateways : tie.Need-returns-2
+gateways : tie.Need-returns
 gateways c =
     let l = c.before.before.before in
-    let r = l.before.before.before.args in
-    let x = l.before.before.gateway-count.ensures.0 in
-    let y = l.if1.false ∙ l.before.gateway-count2.ensures.0 in
+    let r = l.args in
+    let x = l.gateway_count-n.ensures.0 in
+    let y = l.if-n-gateway_count.false ∙ l.gateway_count.ensures.0 in
     rw (← take_own r.a.count r.a.gateways, ← take_own r.b.count r.b.gateways, ← x, ← y)
     c.same_first.ensures
 

@@ -5,19 +5,19 @@ use Rattle.relations.specs.Groups.{same_group}
 use Rattle.relations.proofs.group.same_group.Statement.{statement}
 use Rattle.relations.proofs.group.same_group.Tie as tie
 
-holder : tie.Need-returns
+holder : tie.Need-returns-then-a-b
 unfolding same_group
-holder c = rw (ne_eqb _ _ c.if1.true)
+holder c = rw (ne_eqb _ _ c.if-a-b.true)
 
-technology : tie.Need-returns-2
+technology : tie.Need-returns-then-a-b-2
 unfolding same_group
-technology c = rw (eq-eqb _ _ c.before.before.before.if1.false, ne_eqb _ _ c.if2.true)
+technology c = rw (eq-eqb _ _ c.if-a-b.false, ne_eqb _ _ c.if-a-b-2.true)
 
-gateways : tie.Need-returns-3
+gateways : tie.Need-returns
 unfolding same_group
 gateways c =
     let t = c.before in
-    rw (eq-eqb _ _ t.before.before.before.if1.false, eq-eqb _ _ t.if2.false) c.same-gateways.ensures
+    rw (eq-eqb _ _ t.if-a-b.false, eq-eqb _ _ t.if-a-b-2.false) c.same_gateways.ensures
 
 pub same_group_spec : {M : Type 1} → statement M
 same_group_spec = tie.close (tie.spec holder technology (λ c κs. search rules) gateways)

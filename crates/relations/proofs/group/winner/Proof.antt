@@ -20,10 +20,10 @@ use Rattle.relations.proofs.group.winner.Tie as tie
 abbrev claims : List ℕ → List Row → ℕ → Probe → ℕ → Bool
 claims parents rows g p = candidate_at (parent_in parents) (get_or rows g no_row) p.source p.destination (packet_of p.packet) rows
 
-abbrev I : tie.invariant-loop
+abbrev I : tie.invariant-loop-i
 I parents heads bounds rows g p named i₀ i = (i ≤ rows) × NoneBelow (claims parents (rows_in heads bounds rows) g p) i
 
-abbrev μ : tie.decreases-loop
+abbrev μ : tie.decreases-loop-i
 μ parents heads bounds rows g p named i₀ i = rows - i
 
 module _ (s : tie.Start I μ) where
@@ -41,39 +41,39 @@ module _ (s : tie.Start I μ) where
 
 -- the test that was made is that of row i
 module _ (c : tie.After-matches I μ) where
-  abbrev l : tie.At-loop I μ
+  abbrev l : tie.At-loop-i I μ
   l = c.before.before.before.before
 
   abbrev s : tie.Start I μ
   s = l.before.before
 
-  tested : claim s l.loop.i ≡ (c.before.same_group_lem.result && c.matches.result)
+  tested : claim s l.loop-i.i ≡ (c.same_group.result && c.matches.result)
   tested =
-      candidate_tested _ _ _ _ (row s l.loop.i c.before.before.before.loop-test.true ∙ sym c.before.before.row-at2.ensures)
-      (row s s.args.g s.pre.1 ∙ sym l.before.row_at.ensures) c.before.same_group_lem.ensures c.matches.ensures
+      candidate_tested _ _ _ _ (row s l.loop-i.i c.loop-i-test.true ∙ sym c.row_at-r.ensures)
+      (row s s.args.g s.requires.1 ∙ sym l.row_at-named.ensures) c.same_group.ensures c.matches.ensures
 
-won : tie.Need-returns I μ
+won : tie.Need-returns-then-same_group-matches I μ
 unfolding winner_in
 won c =
     let m = c.before in
     let n = counted (s m) in
-    let h = m.before.before.before.loop-test.true in
+    let h = m.loop-i-test.true in
     sym
-    (winner_first _ _ _ _ _ (rows (s m)) (l m).loop.i
-    (record { inside = omega arith; passes = tested m ∙ c.if1.true; first = (l m).loop.invariant.1 }))
+    (winner_first _ _ _ _ _ (rows (s m)) (l m).loop-i.i
+    (record { inside = omega arith; passes = tested m ∙ c.if-same_group-matches.true; first = (l m).loop-i.invariant.1 }))
 
-next : tie.Need-loop-preserved I μ
+next : tie.Need-loop-i-preserved I μ
 next c =
     let m = c.before in
-    (search rules, below_more (λ j. claim (s m) j ≡ false) (l m).loop.i (l m).loop.invariant.1 (tested m ∙ c.if1.false))
+    (search rules, below_more (λ j. claim (s m) j ≡ false) (l m).loop-i.i (l m).loop-i.invariant.1 (tested m ∙ c.if-same_group-matches.false))
 
-none : tie.Need-returns-2 I μ
+none : tie.Need-returns I μ
 unfolding winner_in
 none c =
-    let k = c.before.loop in
+    let k = c.loop-i in
     let z = c.before.before.before in
     let n = counted z in
-    let h = c.loop-test.false in
+    let h = c.loop-i-test.false in
     sym (winner_absent _ _ _ _ _ (rows z) (λ j b. k.invariant.1 j (omega arith)))
 
 pub winner_spec : {M : Type 1} → statement M

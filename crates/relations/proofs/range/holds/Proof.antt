@@ -4,7 +4,7 @@ use Rattle.relations.proofs.range.holds.Statement.{statement}
 use Rattle.relations.proofs.range.holds.Tie as tie
 
 returns : tie.Need-returns
-returns c = rw (c.at-most2.ensures, c.before.at_most.ensures)
+returns c = rw (c.at_most-2.ensures, c.at_most.ensures)
 
 pub holds_spec : {M : Type 1} → statement M
 holds_spec = tie.close (tie.spec (λ c κs. search rules) (λ c κs. search rules) returns)

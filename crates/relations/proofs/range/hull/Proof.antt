@@ -12,7 +12,7 @@ bounds : (r q : Range) {low high : ℕ} → low ≡ min r.low q.low → high ≡
 bounds r q l h = λ i. record { low = l i; high = h i }
 
 returns : tie.Need-returns
-returns c = let a = c.before.before.args in bounds (range_of a.r) (range_of a.q) (search rules) (search rules)
+returns c = let a = c.args in bounds (range_of a.r) (range_of a.q) (search rules) (search rules)
 
 pub hull_spec : {M : Type 1} → statement M
 hull_spec = tie.close (tie.spec (λ c κs. search rules) (λ c κs. search rules) returns)

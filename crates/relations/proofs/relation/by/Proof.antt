@@ -4,8 +4,8 @@ use mathlib.Core.Path.{refl}
 use Rattle.relations.proofs.relation.by.Statement.{statement}
 use Rattle.relations.proofs.relation.by.Tie as tie
 
-kin : tie.Need-returns-4
-kin c = rw (c.before.before.before.if1.false, c.before.before.if2.false, c.before.if3.false, c.if4.true) refl
+kin : tie.Need-returns-then-kin
+kin c = rw (c.if-equal.false, c.if-above.false, c.if-below.false, c.if-kin.true) refl
 
 pub by_spec : {M : Type 1} → statement M
 by_spec = tie.close (tie.spec (λ c. search rules) (λ c. search rules) (λ c. search rules) kin (λ c. search rules))

@@ -8,8 +8,8 @@ use Rattle.relations.proofs.selector.equals.Tie as tie
 
 returns : tie.Need-returns
 returns c =
-    let s = c.before.before.args in
-    rw (c.before.contains.ensures, c.contains2.ensures) (sym (same_contains (selector_of s.a) (selector_of s.b)))
+    let s = c.args in
+    rw (c.contains.ensures, c.contains-2.ensures) (sym (same_contains (selector_of s.a) (selector_of s.b)))
 
 pub equals_spec : {M : Type 1} → statement M
 equals_spec = tie.close (tie.spec (λ c κs. search rules) (λ c κs. search rules) returns)

@@ -9,10 +9,10 @@ use Rattle.relations.proofs.selector.holds.Tie as tie
 returns : tie.Need-returns
 returns c =
     let l = c.before.before in
-    let p = packet_of l.before.before.args.p in
+    let p = packet_of l.args.p in
     rw (
-      none_above_of {y = p} l.none_above.ensures l.before.lowest.ensures refl,
-      none_above_of {x = p} c.none-above2.ensures refl c.before.highest.ensures,
+      none_above_of {y = p} l.none_above.ensures l.lowest.ensures refl,
+      none_above_of {x = p} c.none_above-2.ensures refl c.highest.ensures,
     )
     (sym (holds_ends _ _))
 

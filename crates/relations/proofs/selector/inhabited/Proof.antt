@@ -7,7 +7,7 @@ use Rattle.relations.proofs.selector.inhabited.Tie as tie
 
 returns : tie.Need-returns
 returns c =
-    none_above_of c.none_above.ensures c.before.before.lowest.ensures c.before.highest.ensures
+    none_above_of c.none_above.ensures c.lowest.ensures c.highest.ensures
     ∙ sym (inhabited_ends _)
 
 pub inhabited_spec : {M : Type 1} → statement M

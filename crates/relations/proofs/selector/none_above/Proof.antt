@@ -8,11 +8,11 @@ use Rattle.relations.proofs.selector.none_above.Tie as tie
 returns : tie.Need-returns
 returns c =
     rw (
-      c.at-most5.ensures,
-      c.before.at-most4.ensures,
-      c.before.before.at-most3.ensures,
-      c.before.before.before.at-most2.ensures,
-      c.before.before.before.before.at_most.ensures,
+      c.at_most-5.ensures,
+      c.at_most-4.ensures,
+      c.at_most-3.ensures,
+      c.at_most-2.ensures,
+      c.at_most.ensures,
       and-true,
     )
     refl

@@ -9,8 +9,8 @@ returns : tie.Need-returns
 returns c =
     let l = c.before.before.before in
     rw (
-      none_above_of l.none_above.ensures l.before.before.lowest.ensures l.before.highest.ensures,
-      none_above_of c.none-above2.ensures c.before.before.lowest2.ensures c.before.highest2.ensures,
+      none_above_of l.none_above.ensures l.lowest.ensures l.highest.ensures,
+      none_above_of c.none_above-2.ensures c.lowest-2.ensures c.highest-2.ensures,
     )
     (sym (overlaps_ends _ _))
 

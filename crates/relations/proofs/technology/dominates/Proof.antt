@@ -12,10 +12,10 @@ use Rattle.relations.proofs.technology.dominates.Tie as tie
 returns : tie.Need-returns
 unfolding dominates
 returns c =
-    let u = c.before.before.args.u in
+    let u = c.args.u in
     elim (decided (eqb u 0) (decides_eqb u 0)) [
       | inl null ↦ rw (eq-eqb u 0 null) refl
-      | inr other ↦ rw (← c.layer2.ensures, ← c.before.layer.ensures) refl
+      | inr other ↦ rw (← c.layer-2.ensures, ← c.layer.ensures) refl
     ]
 
 pub dominates_spec : {M : Type 1} → statement M

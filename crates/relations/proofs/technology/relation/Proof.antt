@@ -6,7 +6,7 @@ use Rattle.relations.proofs.technology.relation.Tie as tie
 
 returns : tie.Need-returns
 unfolding technology_relation
-returns c = rw (← c.before.before.dominates.ensures, ← c.before.dominates2.ensures) c.by.ensures
+returns c = rw (← c.dominates.ensures, ← c.dominates-2.ensures) c.by.ensures
 
 pub relation_spec : {M : Type 1} → statement M
 relation_spec = tie.close (tie.spec (λ c κs. search rules) (λ c κs. search rules) (λ c κs. search rules) returns)
