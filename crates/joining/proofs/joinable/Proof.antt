@@ -13,9 +13,9 @@ returns c =
     let third = c.before in
     let second = third.before in
     let first = second.before in
-    let a = first.before.before.args in
-    let other : c.root4.result ≡ root_of (parent_in a.parents.now) a.b.destination = c.root4.ensures in
-    rw (other, third.root3.ensures, second.root2.ensures, first.root.ensures, first.before.same_group_lem.ensures)
+    let a = first.args in
+    let other : c.root-4.result ≡ root_of (parent_in a.parents.now) a.b.destination = c.root-4.ensures in
+    rw (other, third.root-3.ensures, second.root-2.ensures, first.root.ensures, first.same_group.ensures)
 
 pub joinable_spec : {M : Type 1} → statement M
 joinable_spec =
