@@ -18,75 +18,75 @@ use Rattle.prefixes.proofs.Laws.Held.{held_pairs, prefixes_around, prefixes_left
 use Rattle.prefixes.proofs.count.Statement.{statement}
 use Rattle.prefixes.proofs.count.Tie as tie
 
-abbrev I : tie.invariant-loop
+abbrev I : tie.invariant-loop-n
 I rest₀ n₀ rest n = Held rest × (n + length (prefixes_in rest) ≡ length (prefixes_in rest₀)) × (n + 2 * rest.bits ≤ 2 * rest₀.bits)
 
-abbrev μ : tie.decreases-loop
+abbrev μ : tie.decreases-loop-n
 μ rest₀ n₀ rest n = rest.bits
 
 -- there is more than one address
-module _ (c : tie.After-bit2 I μ) where
-  abbrev tested : tie.Then1 I μ
-  tested = c.before.before.before.before
+module _ (c : tie.After-bit-in-loop-n I μ) where
+  abbrev tested : tie.In-loop-n I μ
+  tested = c.before.before.before.before.before.before
 
-  abbrev l : tie.At-loop I μ
-  l = tested.before.before
+  abbrev l : tie.At-loop-n I μ
+  l = tested.before.before.before
 
   abbrev rest : Addresses
-  rest = l.loop.rest
+  rest = l.loop-n.rest
 
   more : value rest.range.low < value rest.range.high
-  more = ltb-true (value rest.range.low) (value rest.range.high) (sym tested.before.Has-more.ensures ∙ tested.if1.taken)
+  more = ltb-true (value rest.range.low) (value rest.range.high) (sym tested.has_more.ensures ∙ tested.loop-n-test.true)
 
-  lowest : c.before.before.bit.result ≡ bit (is_second (value rest.range.low))
-  lowest = c.before.before.bit.ensures ∙ ap (λ (n : ℕ). bit (eqb n 1)) c.before.before.before.last_bit.ensures
+  lowest : c.bit.result ≡ bit (is_second (value rest.range.low))
+  lowest = c.bit.ensures ∙ ap (λ (n : ℕ). bit (eqb n 1)) c.last_bit.ensures
 
-  highest : c.bit2.result ≡ bit (is_first (value rest.range.high))
-  highest = c.bit2.ensures ∙ ap (λ (n : ℕ). bit (eqb n 0)) c.before.last-bit2.ensures
+  highest : c.bit-in-loop-n.result ≡ bit (is_first (value rest.range.high))
+  highest = c.bit-in-loop-n.ensures ∙ ap (λ (n : ℕ). bit (eqb n 0)) c.last_bit-in-loop-n.ensures
 
-  few : (l.loop.n ≤ 2 * l.before.args.a.bits) × (c.before.before.bit.result ≤ 1) × (c.bit2.result ≤ 1)
+  few : (l.loop-n.n ≤ 2 * l.args.a.bits) × (c.bit.result ≤ 1) × (c.bit-in-loop-n.result ≤ 1)
   few = (
-    omega (arith, l.loop.inv.2),
+    omega (arith, l.loop-n.invariant.2),
     omega (arith, lowest, bit_le (is_second (value rest.range.low))),
     omega (arith, highest, bit_le (is_first (value rest.range.high))),
   )
 
-again : tie.Need-loop-preserved I μ
+again : tie.Need-loop-n-preserved I μ
 again c =
     let k = c.before in
-    let p = c.pairs.result in
-    let h = (l k).loop.invariant in
-    let b = c.pairs.ensures.1 in
+    let p = c.pairs-rest.result in
+    let h = (l k).loop-n.invariant in
+    let b = c.pairs-rest.ensures.1 in
     let f = few k in (
-      held_pairs (rest k) p h.0 (more k) c.pairs.ensures.0 b,
+      held_pairs (rest k) p h.0 (more k) c.pairs-rest.ensures.0 b,
       omega (
         arith,
         h.1,
         lowest k,
         highest k,
-        ap length (prefixes_around (rest k) p h.0 (more k) c.pairs.ensures.0 b),
+        ap length (prefixes_around (rest k) p h.0 (more k) c.pairs-rest.ensures.0 b),
         length_parts p.bits (range_of (rest k).range) (prefixes_in p),
       ),
       omega (arith, h.2, f.1, f.2, b),
     )
 
 -- there is at most one
-module _ (c : tie.After-bit3 I μ) where
-  abbrev passed : tie.Else1 I μ
-  passed = c.before.before
+module _ (c : tie.After-bit-2 I μ) where
+  abbrev passed : tie.After-loop-n I μ
+  passed = c.before.before.before.before
 
-  abbrev last : tie.At-loop I μ
-  last = passed.before.before
+  abbrev last : tie.At-loop-n I μ
+  last = passed.before.before.before
 
-  left : length (prefixes_in last.loop.rest) ≡ c.bit3.result
+  left : length (prefixes_in last.loop-n.rest) ≡ c.bit-2.result
   left =
-      let r = last.loop.rest in
-      ap length (prefixes_left r (ltb-false (value r.range.low) (value r.range.high) (sym passed.before.Has-more.ensures ∙ passed.if1.left)))
+      let r = last.loop-n.rest in
+      ap length (prefixes_left r (ltb-false (value r.range.low) (value r.range.high) (sym passed.has_more.ensures ∙ passed.loop-n-test.false)))
       ∙ length_alone (leb (value r.range.low) (value r.range.high)) r.bits (value r.range.low)
-      ∙ sym (c.bit3.ensures ∙ ap bit c.before.at_most.ensures)
+      ∙ sym (c.bit-2.ensures ∙ ap bit c.at_most.ensures)
 
-  one : c.bit3.result ≤ 1
-  one = omega (arith, c.bit3.ensures, bit_le c.before.at_most.result)
+  one : c.bit-2.result ≤ 1
+  one = omega (arith, c.bit-2.ensures, bit_le c.at_most.result)
 
 pub count_spec : {M : Type 1} → statement M
 count_spec =
@@ -97,10 +97,10 @@ count_spec =
     (λ c. (c.requires, omega arith, omega arith))
     (λ c κs. search rules) (λ c κs. search rules) (λ c κs. search rules) (λ c κs. search rules) (λ c κs. search rules)
     (λ c. let f = few c in omega (arith, f.1, f.2))
-    (λ c. let f = few c in omega (arith, f.0, f.1, f.2, (l c).before.requires.few))
-    (λ c κs. ((l c).loop.invariant.0, more c))
-    (λ c. let b = c.pairs.ensures.1 in omega arith)
+    (λ c. let f = few c in omega (arith, f.0, f.1, f.2, (l c).requires.few))
+    (λ c κs. ((l c).loop-n.invariant.0, more c))
+    (λ c. let b = c.pairs-rest.ensures.1 in omega arith)
     again
     (λ c κs. search rules) (λ c κs. search rules)
-    (λ c. let h = (last c).loop.invariant.2 in omega (arith, h, one c, (last c).before.requires.few))
-    (λ c. omega (arith, (last c).loop.invariant.1, left c)))
+    (λ c. let h = (last c).loop-n.invariant.2 in omega (arith, h, one c, (last c).requires.few))
+    (λ c. omega (arith, (last c).loop-n.invariant.1, left c)))

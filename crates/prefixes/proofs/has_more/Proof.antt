@@ -18,7 +18,7 @@ not_at_most a b = elim (dec_lt a b) [
 ]
 
 returns : tie.Need-returns
-returns c = let r = c.before.args.r in ap not c.at_most.ensures ∙ not_at_most (value r.low) (value r.high)
+returns c = let r = c.args.r in ap not c.at_most.ensures ∙ not_at_most (value r.low) (value r.high)
 
 pub has_more_spec : {M : Type 1} → statement M
 has_more_spec = tie.close (tie.spec (λ c κs. search rules) returns)

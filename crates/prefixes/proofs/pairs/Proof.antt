@@ -9,17 +9,17 @@ use Rattle.prefixes.proofs.Laws.Held.{some_bit}
 use Rattle.prefixes.proofs.pairs.Statement.{statement}
 use Rattle.prefixes.proofs.pairs.Tie as tie
 
-bit : tie.Need-overflow-sub-t7
+bit : tie.Need-overflow_sub-result
 bit c =
     let s = c.before.before.before.before.before in
     some_bit (value s.args.a.range.high) s.args.a.bits (omega (arith, s.requires.1)) s.requires.0.high
 
 returns : tie.Need-returns
 returns c =
-    let low : value c.before.before.before.half.result ≡ (value c.before.before.before.before.before.args.a.range.low + 1) / 2 =
-    c.before.before.before.half.ensures ∙ ap (λ (n : ℕ). n / 2) (c.before.before.before.before.next.ensures ∙ sym (add-one _)) in
-    let high : value c.before.half2.result ≡ (value c.before.before.before.before.before.args.a.range.high - 1) / 2 =
-    c.before.half2.ensures ∙ ap (λ (n : ℕ). n / 2) c.before.before.previous.ensures in
+    let low : value c.half.result ≡ (value c.args.a.range.low + 1) / 2 =
+    c.half.ensures ∙ ap (λ (n : ℕ). n / 2) (c.next.ensures ∙ sym (add-one _)) in
+    let high : value c.half-2.result ≡ (value c.args.a.range.high - 1) / 2 =
+    c.half-2.ensures ∙ ap (λ (n : ℕ). n / 2) c.previous.ensures in
     ((λ i. record { low = low i; high = high i }), omega (arith, bit c))
 
 pub pairs_spec : {M : Type 1} → statement M

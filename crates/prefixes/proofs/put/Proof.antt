@@ -25,10 +25,10 @@ use Rattle.prefixes.proofs.Laws.Held.{prefixes_left}
 use Rattle.prefixes.proofs.put.Statement.{statement}
 use Rattle.prefixes.proofs.put.Tie as tie
 
-abbrev I : tie.invariant-loop
+abbrev I : tie.invariant-loop-first
 I bytes out₀ whole n rest₀ from₀ to₀ out rest from to = Left whole rest out₀ out from to
 
-abbrev μ : tie.decreases-loop
+abbrev μ : tie.decreases-loop-first
 μ bytes out₀ whole n rest₀ from₀ to₀ out rest from to = rest.bits
 
 -- the range, as it is held
@@ -37,170 +37,170 @@ module _ (s : tie.Start I μ) where
   whole = record { range = s.args.r; bits = 8 * s.args.bytes }
 
   held : Held whole
-  held = let h = s.pre.1 in record { high = s.pre.0; few = omega arith }
+  held = let h = s.requires.1 in record { high = s.requires.0; few = omega arith }
 
   -- how many bytes an address has
   bytes : whole.bits / 8 ≡ s.args.bytes
   bytes = omega arith
 
   few : length (prefixes_in whole) ≤ 16 * number_width + 1
-  few = let m = prefixes_most (8 * s.args.bytes) (range_of s.args.r) s.pre.0 in let h = s.pre.1 in omega arith
+  few = let m = prefixes_most (8 * s.args.bytes) (range_of s.args.r) s.requires.0 in let h = s.requires.1 in omega arith
 
 -- and its prefixes are counted
-module _ (c : tie.After-count I μ) where
+module _ (c : tie.After-count-n I μ) where
   abbrev start : tie.Start I μ
   start = c.before.before
 
-  counted : c.count.result ≡ length (prefixes_in (whole start))
-  counted = c.count.ensures
+  counted : c.count-n.result ≡ length (prefixes_in (whole start))
+  counted = c.count-n.ensures
 
-  long : length (prefix_bytes start.args.bytes (prefixes_in (whole start))) ≡ (start.args.bytes + 1) * c.count.result
+  long : length (prefix_bytes start.args.bytes (prefixes_in (whole start))) ≡ (start.args.bytes + 1) * c.count-n.result
   long =
       length_prefix_bytes start.args.bytes (prefixes_in (whole start))
       ∙ ap (λ (n : ℕ). (start.args.bytes + 1) * n) (sym counted)
 
   few_bytes : start.args.bytes + 1 ≤ number_width + 1
-  few_bytes = let h = start.pre.1 in omega arith
+  few_bytes = let h = start.requires.1 in omega arith
 
-short : tie.Need-returns I μ
+short : tie.Need-returns-then-out-bytes I μ
 short c =
     let k = c.before in
-    writes_not (prefix_bytes (start k).args.bytes (prefixes_in (whole (start k)))) (start k).args.out.now (omega (arith, long k, c.if1.true))
+    writes_not (prefix_bytes (start k).args.bytes (prefixes_in (whole (start k)))) (start k).args.out.now (omega (arith, long k, c.if-out-bytes.true))
 
 -- there is room, and a turn begins
-module _ (c : tie.At-loop I μ) where
-  abbrev k : tie.After-count I μ
+module _ (c : tie.At-loop-first I μ) where
+  abbrev k : tie.After-count-n I μ
   k = c.before.before
 
   abbrev all : Addresses
   all = whole (start k)
 
   abbrev rest : Addresses
-  rest = c.loop.rest
+  rest = c.loop-first.rest
 
   room : (all.bits / 8 + 1) * length (prefixes_in all) ≤ length (start k).args.out.now
   room =
-      let e : (all.bits / 8 + 1) * length (prefixes_in all) ≡ ((start k).args.bytes + 1) * k.count.result =
+      let e : (all.bits / 8 + 1) * length (prefixes_in all) ≡ ((start k).args.bytes + 1) * k.count-n.result =
       λ i. (bytes (start k) i + 1) * sym (counted k) i in
-      omega (arith, e, c.before.if1.false)
+      omega (arith, e, c.if-out-bytes.false)
 
-  few_places : c.loop.to ≤ 16 * number_width + 1
-  few_places = omega (arith, c.loop.invariant.few, few (start k))
+  few_places : c.loop-first.to ≤ 16 * number_width + 1
+  few_places = omega (arith, c.loop-first.invariant.few, few (start k))
 
 -- there is more than one address, and the ends are known
-module _ (c : tie.After-last-bit2 I μ) where
-  abbrev l : tie.At-loop I μ
-  l = c.before.before.before.before
+module _ (c : tie.After-last_bit-last I μ) where
+  abbrev l : tie.At-loop-first I μ
+  l = c.before.before.before.before.before.before.before
 
   more : value (rest l).range.low < value (rest l).range.high
   more =
       ltb-true (value (rest l).range.low) (value (rest l).range.high)
-      (sym c.before.before.before.Has-more.ensures ∙ c.before.before.if2.true)
+      (sym c.has_more.ensures ∙ c.loop-first-test.true)
 
-  lowest : eqb c.before.last_bit.result 1 ≡ is_second (value (rest l).range.low)
-  lowest = ap (λ (n : ℕ). eqb n 1) c.before.last_bit.ensures
+  lowest : eqb c.last_bit-first.result 1 ≡ is_second (value (rest l).range.low)
+  lowest = ap (λ (n : ℕ). eqb n 1) c.last_bit-first.ensures
 
-  highest : eqb c.last-bit2.result 0 ≡ is_first (value (rest l).range.high)
-  highest = ap (λ (n : ℕ). eqb n 0) c.last-bit2.ensures
+  highest : eqb c.last_bit-last.result 0 ≡ is_first (value (rest l).range.high)
+  highest = ap (λ (n : ℕ). eqb n 0) c.last_bit-last.ensures
 
-  ends : l.loop.from + bit (eqb c.before.last_bit.result 1) + bit (eqb c.last-bit2.result 0) ≤ l.loop.to
-  ends = omega (arith, left_ends l.loop.inv more, ap bit lowest, ap bit highest)
+  ends : l.loop-first.from + bit (eqb c.last_bit-first.result 1) + bit (eqb c.last_bit-last.result 0) ≤ l.loop-first.to
+  ends = omega (arith, left_ends l.loop-first.invariant more, ap bit lowest, ap bit highest)
 
 -- the lowest is written
-module _ (c : tie.After-put-if I μ) where
-  abbrev b : tie.After-last-bit2 I μ
-  b = c.before.before
+module _ (c : tie.After-put_if I μ) where
+  abbrev b : tie.After-last_bit-last I μ
+  b = c.before.before.before
 
   abbrev mid : List ℕ
-  mid = c.put_if.new.1.1.1.1.0
+  mid = c.put_if.new.out
 
   abbrev first : List ℕ
   first = bytes_at (all (l b)) (rest (l b)).bits (alone_if (is_second (value (rest (l b)).range.low)) (rest (l b)).bits (value (rest (l b)).range.low))
 
-  stored : mid ≡ sets (l b).loop.out (size (all (l b)) * (l b).loop.from) first
+  stored : mid ≡ sets (l b).loop-first.out (size (all (l b)) * (l b).loop-first.from) first
   stored =
       c.put_if.ensures
-      ∙ ap (λ (there : Bool). sets (l b).loop.out (size (all (l b)) * (l b).loop.from)
+      ∙ ap (λ (there : Bool). sets (l b).loop-first.out (size (all (l b)) * (l b).loop-first.from)
       (bytes_at (all (l b)) (rest (l b)).bits (alone_if there (rest (l b)).bits (value (rest (l b)).range.low)))) (lowest b)
 
   mid_long : length mid ≡ length (start (k (l b))).args.out.now
-  mid_long = ap length stored ∙ length-sets (l b).loop.out (size (all (l b)) * (l b).loop.from) first ∙ left_long (l b).loop.inv
+  mid_long = ap length stored ∙ length-sets (l b).loop-first.out (size (all (l b)) * (l b).loop-first.from) first ∙ left_long (l b).loop-first.invariant
 
 -- the highest is written, and the pairs are left
-module _ (c : tie.After-pairs I μ) where
-  abbrev two : tie.After-put-if2 I μ
+module _ (c : tie.After-pairs-rest I μ) where
+  abbrev two : tie.After-put_if-in-loop-first I μ
   two = c.before.before.before
 
-  abbrev one : tie.After-put-if I μ
-  one = two.before.before.before.before.before.before
+  abbrev one : tie.After-put_if I μ
+  one = two.before.before.before.before.before.before.before
 
-  abbrev at : tie.At-loop I μ
+  abbrev at : tie.At-loop-first I μ
   at = l (b one)
 
-  last_place : at.loop.to - two.before.before.bit2.result ≡ at.loop.to - bit (is_first (value (rest at).range.high))
-  last_place = ap (λ (n : ℕ). at.loop.to - n) (two.before.before.bit2.ensures ∙ ap bit (highest (b one)))
+  last_place : at.loop-first.to - two.bit-to.result ≡ at.loop-first.to - bit (is_first (value (rest at).range.high))
+  last_place = ap (λ (n : ℕ). at.loop-first.to - n) (two.bit-to.ensures ∙ ap bit (highest (b one)))
 
-  last_stored : two.put-if2.last.1.1.1.1.0 ≡ sets (mid one) (size (all at) * (at.loop.to - bit (is_first (value (rest at).range.high))))
+  last_stored : two.put_if-in-loop-first.new.out ≡ sets (mid one) (size (all at) * (at.loop-first.to - bit (is_first (value (rest at).range.high))))
       (bytes_at (all at) (rest at).bits (alone_if (is_first (value (rest at).range.high)) (rest at).bits (value (rest at).range.high)))
   last_stored =
-      two.put-if2.ensures
+      two.put_if-in-loop-first.ensures
       ∙ (λ i. sets (mid one) (size (all at) * last_place i) (bytes_at (all at) (rest at).bits (alone_if (highest (b one) i) (rest at).bits (value (rest at).range.high))))
 
-again : tie.Need-loop-preserved I μ
+again : tie.Need-loop-first-preserved I μ
 again c =
     let a = at c in
     let w = two c in
-    let first : a.loop.from + bit (is_second (value (rest a).range.low)) ≡ a.loop.from + w.before.before.before.bit.result =
-    ap (λ (n : ℕ). a.loop.from + n) (sym (w.before.before.before.bit.ensures ∙ ap bit (lowest (b (one c))))) in
-    let g : Left (all a) c.pairs.result (start (k a)).args.out.now w.put-if2.last.1.1.1.1.0
-    (a.loop.from + bit (is_second (value (rest a).range.low))) (a.loop.to - bit (is_first (value (rest a).range.high))) =
-    left_pairs a.loop.inv c.pairs.result (more (b (one c))) c.pairs.ensures.0 c.pairs.ensures.1 (mid (one c)) w.put-if2.last.1.1.1.1.0
+    let first : a.loop-first.from + bit (is_second (value (rest a).range.low)) ≡ a.loop-first.from + w.bit-from.result =
+    ap (λ (n : ℕ). a.loop-first.from + n) (sym (w.bit-from.ensures ∙ ap bit (lowest (b (one c))))) in
+    let g : Left (all a) c.pairs-rest.result (start (k a)).args.out.now w.put_if-in-loop-first.new.out
+    (a.loop-first.from + bit (is_second (value (rest a).range.low))) (a.loop-first.to - bit (is_first (value (rest a).range.high))) =
+    left_pairs a.loop-first.invariant c.pairs-rest.result (more (b (one c))) c.pairs-rest.ensures.0 c.pairs-rest.ensures.1 (mid (one c)) w.put_if-in-loop-first.new.out
     (stored (one c)) (last_stored c) in
-    subst (λ (n : ℕ). Left (all a) c.pairs.result (start (k a)).args.out.now w.put-if2.last.1.1.1.1.0 n (a.loop.to - w.before.before.bit2.result)) first
-    (subst (Left (all a) c.pairs.result (start (k a)).args.out.now w.put-if2.last.1.1.1.1.0 (a.loop.from + bit (is_second (value (rest a).range.low)))) (sym (last_place c)) g)
+    subst (λ (n : ℕ). Left (all a) c.pairs-rest.result (start (k a)).args.out.now w.put_if-in-loop-first.new.out n (a.loop-first.to - w.bit-to.result)) first
+    (subst (Left (all a) c.pairs-rest.result (start (k a)).args.out.now w.put_if-in-loop-first.new.out (a.loop-first.from + bit (is_second (value (rest a).range.low)))) (sym (last_place c)) g)
 
 -- one address is left at most
-module _ (c : tie.After-at-most I μ) where
-  abbrev end : tie.At-loop I μ
-  end = c.before.before.before
+module _ (c : tie.After-at_most I μ) where
+  abbrev end : tie.At-loop-first I μ
+  end = c.before.before.before.before.before.before
 
   no_more : value (rest end).range.high ≤ value (rest end).range.low
   no_more =
-      ltb-false (value (rest end).range.low) (value (rest end).range.high) (sym c.before.before.Has-more.ensures ∙ c.before.if2.false)
+      ltb-false (value (rest end).range.low) (value (rest end).range.high) (sym c.has_more.ensures ∙ c.loop-first-test.false)
 
   -- It is written if the range has it.
   there : c.at_most.result ≡ leb (value (rest end).range.low) (value (rest end).range.high)
   there = c.at_most.ensures
 
-  place : end.loop.from + bit c.at_most.result ≤ end.loop.to
+  place : end.loop-first.from + bit c.at_most.result ≤ end.loop-first.to
   place =
       omega (
         arith,
-        end.loop.inv.places,
+        end.loop-first.invariant.places,
         ap length (prefixes_left (rest end) no_more),
         ap bit there,
         length_alone (leb (value (rest end).range.low) (value (rest end).range.high)) (rest end).bits (value (rest end).range.low),
       )
 
 -- and it is written
-module _ (c : tie.After-put-if3 I μ) where
-  abbrev z : tie.After-at-most I μ
-  z = c.before.before
+module _ (c : tie.After-put_if-2 I μ) where
+  abbrev z : tie.After-at_most I μ
+  z = c.before.before.before
 
-  whole_stored : c.put-if3.new.1.1.1.1.0 ≡ sets (start (k (end z))).args.out.now 0 (prefix_bytes ((all (end z)).bits / 8) (prefixes_in (all (end z))))
+  whole_stored : c.put_if-2.new.out ≡ sets (start (k (end z))).args.out.now 0 (prefix_bytes ((all (end z)).bits / 8) (prefixes_in (all (end z))))
   whole_stored =
-      left_last (end z).loop.inv c.put-if3.new.1.1.1.1.0 (no_more z)
-      (c.put-if3.ensures
-      ∙ ap (λ (h : Bool). sets (end z).loop.out (size (all (end z)) * (end z).loop.from)
+      left_last (end z).loop-first.invariant c.put_if-2.new.out (no_more z)
+      (c.put_if-2.ensures
+      ∙ ap (λ (h : Bool). sets (end z).loop-first.out (size (all (end z)) * (end z).loop-first.from)
       (bytes_at (all (end z)) (rest (end z)).bits (alone_if h (rest (end z)).bits (value (rest (end z)).range.low)))) (there z))
 
-returns : tie.Need-returns-2 I μ
+returns : tie.Need-returns I μ
 returns c =
     let q = c.before.before in
     let e = end (z q) in
     let n = k e in
-    writes_stored (prefix_bytes (start n).args.bytes (prefixes_in (whole (start n)))) (start n).args.out.now (omega (arith, long n, e.before.if1.left))
-    n.count.result (counted n)
+    writes_stored (prefix_bytes (start n).args.bytes (prefixes_in (whole (start n)))) (start n).args.out.now (omega (arith, long n, e.if-out-bytes.false))
+    n.count-n.result (counted n)
     (whole_stored q ∙ ap (λ (m : ℕ). sets (start n).args.out.now 0 (prefix_bytes m (prefixes_in (whole (start n))))) (bytes (start n)))
 
 pub put_spec : {M : Type 1} → statement M
@@ -209,36 +209,36 @@ put_spec =
     (tie.spec
     I
     μ
-    (λ c. let h = c.before.requires.1 in omega arith)
+    (λ c. let h = c.requires.1 in omega arith)
     (λ c κs. held c.before)
     (λ c. let h = (start c).requires.1 in omega arith)
-    (λ c. omega (arith, mul-le-mul_right c.count.result (few_bytes c), counted c, few (start c)))
+    (λ c. omega (arith, mul-le-mul_right c.count-n.result (few_bytes c), counted c, few (start c)))
     short
     (λ c. rw (counted c.before) (left_start (whole (start c.before)) (start c.before).args.out.now (held (start c.before))))
     (λ c κs. search rules) (λ c κs. search rules) (λ c κs. search rules)
     (λ c κs.
-    let q = c.before in
+    let q = c.before.before in
     let t = l q in
-    left_room t.loop.inv (eqb q.before.last_bit.result 1) (rest t).range.low t.loop.out t.loop.from (held (start (k t))) (room t) (left_long t.loop.inv)
+    left_room t.loop-first.invariant (eqb q.last_bit-first.result 1) (rest t).range.low t.loop-first.out t.loop-first.from (held (start (k t))) (room t) (left_long t.loop-first.invariant)
     (λ e. let m = more q in omega arith) (let m = ends q in omega arith))
     (λ c κs. search rules)
-    (λ c. let q = b c.before.before.before in omega (arith, ends q, c.bit.ensures, few_places (l q)))
+    (λ c. let q = b c.before.before.before in omega (arith, ends q, c.bit-from.ensures, few_places (l q)))
     (λ c κs. search rules)
-    (λ c. let q = b c.before.before.before.before in omega (arith, ends q, c.bit2.ensures))
+    (λ c. let q = b c.before.before.before.before in omega (arith, ends q, c.bit-to.ensures))
     (λ c κs.
-    let p = c.before.before.before.before.before in
+    let p = c.before.before.before.before.before.before in
     let q = b p in
     let t = l q in
-    left_room t.loop.inv (eqb q.last-bit2.result 0) (rest t).range.high (mid p) (t.loop.to - c.before.bit2.result) (held (start (k t))) (room t) (mid_long p)
-    (λ e. omega arith) (let m = ends q in let n = c.before.bit2.ensures in omega arith))
-    (λ c κs. let q = b c.before.before.before.before.before.before.before.before in ((l q).loop.inv.held, more q))
-    (λ c. let e = c.pairs.ensures.1 in omega arith)
+    left_room t.loop-first.invariant (eqb q.last_bit-last.result 0) (rest t).range.high (mid p) (t.loop-first.to - c.bit-to.result) (held (start (k t))) (room t) (mid_long p)
+    (λ e. omega arith) (let m = ends q in let n = c.bit-to.ensures in omega arith))
+    (λ c κs. let q = b c.before.before.before.before.before.before.before.before.before in ((l q).loop-first.invariant.held, more q))
+    (λ c. let e = c.pairs-rest.ensures.1 in omega arith)
     again
     (λ c κs. search rules)
     (λ c κs.
-    let q = c.before in
+    let q = c.before.before in
     let t = end q in
-    left_room t.loop.inv q.at_most.result (rest t).range.low t.loop.out t.loop.from (held (start (k t))) (room t) (left_long t.loop.inv)
+    left_room t.loop-first.invariant q.at_most.result (rest t).range.low t.loop-first.out t.loop-first.from (held (start (k t))) (room t) (left_long t.loop-first.invariant)
     (λ e. leb-true (value (rest t).range.low) (value (rest t).range.high) (sym (there q) ∙ e)) (place q))
     (λ c. let q = c.before.before in ap length (whole_stored q) ∙ length-sets (start (k (end (z q)))).args.out.now 0 (prefix_bytes ((all (end (z q))).bits / 8) (prefixes_in (all (end (z q))))))
     returns)

@@ -7,17 +7,17 @@ use Rattle.prefixes.specs.Sides.{side_of}
 use Rattle.prefixes.proofs.side.addresses.Statement.{statement}
 use Rattle.prefixes.proofs.side.addresses.Tie as tie
 
-source : tie.Need-returns
+source : tie.Need-returns-then-side-eq0
 source c =
-    let a = c.before.before.args in
-    let e : a.side ≡ 0 = c.before.if1.true in
+    let a = c.args in
+    let e : a.side ≡ 0 = c.if-side-eq0.true in
     ap (λ (n : ℕ). side_of n (selector_of a.s)) (sym e)
 
-destination : tie.Need-returns-2
+destination : tie.Need-returns
 destination c =
-    let a = c.before.before.args in
-    let h = c.before.before.requires in
-    let e : a.side ≡ 1 = let n = c.before.if1.false in omega arith in
+    let a = c.args in
+    let h = c.requires in
+    let e : a.side ≡ 1 = let n = c.if-side-eq0.false in omega arith in
     ap (λ (n : ℕ). side_of n (selector_of a.s)) (sym e)
 
 pub addresses_spec : {M : Type 1} → statement M
