@@ -6,17 +6,17 @@ use Rattle.frames.specs.Entities.{entity_rule}
 use Rattle.frames.proofs.entity.broken.Statement.{statement}
 use Rattle.frames.proofs.entity.broken.Tie as tie
 
-root : tie.Need-returns
+root : tie.Need-returns-then-e-eq-NO_PARENT
 unfolding entity_rule
 root c =
     let g = c.before in
-    rw (refusal_first, none_broken, eq-eqb _ _ g.before.if1.true, ← g.is-good-root.ensures) c.or_else.ensures
+    rw (refusal_first, none_broken, eq-eqb _ _ g.if-e-eq-NO_PARENT.true, ← g.is_good_root.ensures) c.or_else.ensures
 
-other : tie.Need-returns-2
+other : tie.Need-returns
 unfolding entity_rule
 other c =
     let g = c.before in
-    rw (refusal_first, none_broken, ne_eqb _ _ g.before.if1.false, ← g.is-good-other.ensures) c.or-else2.ensures
+    rw (refusal_first, none_broken, ne_eqb _ _ g.if-e-eq-NO_PARENT.false, ← g.is_good_other-good.ensures) c.or_else-2.ensures
 
 pub broken_spec : {M : Type 1} → statement M
 broken_spec =

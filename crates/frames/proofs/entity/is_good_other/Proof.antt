@@ -8,18 +8,18 @@ use Rattle.frames.proofs.Laws.Numbers.{first_counted}
 use Rattle.frames.proofs.entity.is_good_other.Statement.{statement}
 use Rattle.frames.proofs.entity.is_good_other.Tie as tie
 
-late : tie.Need-returns
+late : tie.Need-returns-then-count-p
 late c =
     let s = c.before.before in
-    simp (first_counted s.args.count s.args.layers.now s.requires, le-ltb _ _ c.if1.true, and-false)
+    simp (first_counted s.args.count s.args.layers.now s.requires, le-ltb _ _ c.if-count-p.true, and-false)
 
-earlier : tie.Need-returns-2
+earlier : tie.Need-returns
 earlier c =
     let r = c.before.before in
-    let h = r.before.before.if1.false in
+    let h = r.if-count-p.false in
     let s = r.before.before.before.before in
     rw (
-      ← r.before.is-layer.ensures,
+      ← r.is_layer.ensures,
       first_counted s.args.count s.args.layers.now s.requires,
       lt-ltb _ _ h,
       get_or-take s.args.count s.args.layers.now s.args.e.parent 0 h,

@@ -4,7 +4,7 @@ use Rattle.frames.proofs.entity.read.Statement.{statement}
 use Rattle.frames.proofs.entity.read.Tie as tie
 
 returns : tie.Need-returns
-returns c = rw (c.before.before.u8-at.ensures, c.before.u8-at2.ensures, c.u8-at3.ensures)
+returns c = rw (c.u8_at.ensures, c.u8_at-2.ensures, c.u8_at-3.ensures)
 
 pub read_spec : {M : Type 1} → statement M
 read_spec = tie.close (tie.spec (λ c κs. search rules) (λ c κs. search rules) (λ c κs. search rules) returns)

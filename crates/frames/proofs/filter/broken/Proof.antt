@@ -8,7 +8,7 @@ returns : tie.Need-returns
 returns c =
     let r = c.before in
     let e = r.before in
-    simp (refusal_first, none_broken) (rw (← r.is-root.ensures, ← e.before.inhabited.ensures, ← e.or_else.ensures) c.or-else2.ensures)
+    simp (refusal_first, none_broken) (rw (← r.is_root.ensures, ← e.inhabited.ensures, ← e.or_else-empty.ensures) c.or_else.ensures)
 
 pub broken_spec : {M : Type 1} → statement M
 broken_spec =

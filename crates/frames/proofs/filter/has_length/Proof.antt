@@ -4,7 +4,7 @@ use Rattle.frames.proofs.filter.has_length.Statement.{statement}
 use Rattle.frames.proofs.filter.has_length.Tie as tie
 
 returns : tie.Need-returns
-returns c = rw (c.before.before.has-bytes.ensures, c.before.has-bytes2.ensures, c.byte-or-zero.ensures)
+returns c = rw (c.has_bytes.ensures, c.has_bytes-2.ensures, c.byte_or_zero.ensures)
 
 pub has_length_spec : {M : Type 1} → statement M
 has_length_spec = tie.close (tie.spec (λ c κs. search rules) (λ c. search rules) (λ c κs. search rules) (λ c κs. search rules) returns)

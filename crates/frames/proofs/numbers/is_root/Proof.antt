@@ -7,17 +7,17 @@ use Rattle.frames.proofs.Laws.Numbers.{first_counted}
 use Rattle.frames.proofs.numbers.is_root.Statement.{statement}
 use Rattle.frames.proofs.numbers.is_root.Tie as tie
 
-late : tie.Need-returns
+late : tie.Need-returns-then-count-i
 unfolding is_root
 late c =
     let s = c.before in
-    rw (first_counted s.args.count s.args.parents.now s.requires, le-ltb _ _ c.if1.true)
+    rw (first_counted s.args.count s.args.parents.now s.requires, le-ltb _ _ c.if-count-i.true)
 
-entity : tie.Need-returns-2
+entity : tie.Need-returns
 unfolding is_root
 entity c =
     let s = c.before.before in
-    let h = c.before.if1.false in
+    let h = c.if-count-i.false in
     rw (
       first_counted s.args.count s.args.parents.now s.requires,
       lt-ltb _ _ h,

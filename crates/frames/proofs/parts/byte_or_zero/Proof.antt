@@ -8,9 +8,9 @@ use Rattle.hexlines.proofs.Laws.Lines.{length_bytes_of}
 use Rattle.frames.proofs.parts.byte_or_zero.Statement.{statement}
 use Rattle.frames.proofs.parts.byte_or_zero.Tie as tie
 
-none : tie.Need-returns
+none : tie.Need-returns-then-part-at
 none c =
-    let l = c.before.before.args.part.now in
+    let l = c.args.part.now in
     sym (get_or-eq_default (bytes_of l) 0 (omega (arith, length_bytes_of l)))
 
 pub byte_or_zero_spec : {M : Type 1} → statement M

@@ -13,22 +13,22 @@ use Rattle.base.proofs.Laws.Lists.{sets_long}
 use Rattle.frames.proofs.parts.put_bytes.Statement.{statement}
 use Rattle.frames.proofs.parts.put_bytes.Tie as tie
 
-abbrev I : tie.invariant-loop
+abbrev I : tie.invariant-loop-k
 I from bytes₀ at k₀ bytes k = (k ≤ length from) × (sets bytes (at + k) (drop k from) ≡ sets bytes₀ at from)
 
-abbrev μ : tie.decreases-loop
+abbrev μ : tie.decreases-loop-k
 μ from bytes₀ at k₀ bytes k = length from - k
 
 -- where a turn begins
-module _ (c : tie.At-loop I μ) where
+module _ (c : tie.At-loop-k I μ) where
   abbrev s : tie.Start I μ
   s = c.before
 
   abbrev from : List ℕ
   from = s.args.from.now
 
-  long : length c.loop.bytes ≡ length s.args.bytes.now
-  long = sets_long c.loop.bytes s.args.bytes.now (s.args.at + c.loop.k) s.args.at (drop c.loop.k from) from c.loop.invariant.1
+  long : length c.loop-k.bytes ≡ length s.args.bytes.now
+  long = sets_long c.loop-k.bytes s.args.bytes.now (s.args.at + c.loop-k.k) s.args.at (drop c.loop-k.k from) from c.loop-k.invariant.1
 
 -- One byte more.
 stored : (bytes from : List ℕ) (at k : ℕ) → k < length from
@@ -37,13 +37,13 @@ stored bytes from at k h =
     let one : at + (k + 1) ≡ suc (at + k) = omega arith in
     rw (one, drop-cons from k 0 h, add-one k)
 
-again : tie.Need-loop-preserved I μ
+again : tie.Need-loop-k-preserved I μ
 again c =
     let l = c.before.before in
-    (search rules, stored l.loop.bytes (from l) (s l).args.at l.loop.k c.before.loop-test.true ∙ l.loop.invariant.1)
+    (search rules, stored l.loop-k.bytes (from l) (s l).args.at l.loop-k.k c.loop-k-test.true ∙ l.loop-k.invariant.1)
 
 returns : tie.Need-returns I μ
-returns c = rw (drop_of_length-le (from c.before) c.loop-test.false) at c.before.loop.invariant.1
+returns c = rw (drop_of_length-le (from c.before) c.loop-k-test.false) at c.loop-k.invariant.1
 
 pub put_bytes_spec : {M : Type 1} → statement M
 put_bytes_spec =

@@ -12,10 +12,10 @@ returns : tie.Need-returns
 returns c =
     let second = c.before.before in
     let first = second.before.before.before.before in
-    let a = first.before.before.before.args in
+    let a = first.args in
     sets_after a.bytes.now a.at (number_bytes a.width (value a.r.low)) (number_bytes a.width (value a.r.high))
     first.put.ensures
-    second.put2.ensures
+    second.put-2.ensures
     (let e = length_number_bytes a.width (value a.r.low) in omega arith)
 
 pub put_range_spec : {M : Type 1} → statement M

@@ -13,21 +13,21 @@ use Rattle.frames.proofs.Laws.Writing.{length_bytes_of_range}
 use Rattle.frames.proofs.parts.put_selector.Statement.{statement}
 use Rattle.frames.proofs.parts.put_selector.Tie as tie
 
-module _ (c : tie.After-put-range5) where
-  abbrev fourth : tie.After-put-range4
-  fourth = c.before.before.before.before
+module _ (c : tie.After-put_range-5) where
+  abbrev fourth : tie.After-put_range-4
+  fourth = c.before.before.before.before.before
 
-  abbrev third : tie.After-put-range3
-  third = fourth.before.before.before.before
+  abbrev third : tie.After-put_range-3
+  third = fourth.before.before.before.before.before
 
-  abbrev second : tie.After-put-range2
-  second = third.before.before.before.before
+  abbrev second : tie.After-put_range-2
+  second = third.before.before.before.before.before
 
-  abbrev first : tie.After-put-range
-  first = second.before.before.before.before
+  abbrev first : tie.After-put_range
+  first = second.before.before.before.before.before
 
   abbrev s : tie.Start
-  s = first.before.before.before
+  s = first.before.before.before.before
 
   abbrev start : List ℕ
   start = s.args.bytes.now
@@ -53,7 +53,7 @@ module _ (c : tie.After-put-range5) where
   abbrev protocol : List ℕ
   protocol = bytes_of_range 1 (range_of s.args.s.protocol)
 
-  stored : c.put-range5.new.1.1.0 ≡ sets s.args.bytes.now s.args.at (bytes_of_box (box_of s.args.address) (selector_of s.args.s))
+  stored : c.put_range-5.new.bytes ≡ sets s.args.bytes.now s.args.at (bytes_of_box (box_of s.args.address) (selector_of s.args.s))
   stored =
       let a = length_bytes_of_range w (range_of s.args.s.source_address) in
       let b = length_bytes_of_range w (range_of s.args.s.destination_address) in
@@ -62,10 +62,10 @@ module _ (c : tie.After-put-range5) where
       let lead = length-append from to in
       let ports = length-append (from ++ to) from_port in
       let last = length-append ((from ++ to) ++ from_port) to_port in
-      let two = sets_after start at from to first.put-range.ensures second.put-range2.ensures (omega arith) in
-      let three = sets_after start at (from ++ to) from_port two third.put-range3.ensures (omega arith) in
-      let four = sets_after start at ((from ++ to) ++ from_port) to_port three fourth.put-range4.ensures (omega arith) in
-      let five = sets_after start at (((from ++ to) ++ from_port) ++ to_port) protocol four c.put-range5.ensures (omega arith) in
+      let two = sets_after start at from to first.put_range.ensures second.put_range-2.ensures (omega arith) in
+      let three = sets_after start at (from ++ to) from_port two third.put_range-3.ensures (omega arith) in
+      let four = sets_after start at ((from ++ to) ++ from_port) to_port three fourth.put_range-4.ensures (omega arith) in
+      let five = sets_after start at (((from ++ to) ++ from_port) ++ to_port) protocol four c.put_range-5.ensures (omega arith) in
       let whole : (((from ++ to) ++ from_port) ++ to_port) ++ protocol ≡ bytes_of_box (box_of w) (selector_of s.args.s) =
       simp (append_assoc, append-nil) in
       five ∙ ap (sets start at) whole

@@ -8,10 +8,10 @@ returns : tie.Need-returns
 unfolding range_from
 returns c =
     rw (
-      c.before.before.new.ensures,
-      c.before.before.before.number_at.ensures,
-      c.new2.ensures,
-      c.before.number-at2.ensures,
+      c.new.ensures,
+      c.number_at.ensures,
+      c.new-2.ensures,
+      c.number_at-2.ensures,
     )
 
 pub range_spec : {M : Type 1} → statement M

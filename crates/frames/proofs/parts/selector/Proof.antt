@@ -8,11 +8,11 @@ returns : tie.Need-returns
 returns c =
     let f = c.before.before in
     simp (
-      f.before.before.range.ensures,
-      f.before.range2.ensures,
-      f.range3.ensures,
-      c.before.range4.ensures,
-      c.range5.ensures,
+      f.range.ensures,
+      f.range-2.ensures,
+      f.range-3.ensures,
+      c.range-4.ensures,
+      c.range-5.ensures,
       add_assoc,
     )
 

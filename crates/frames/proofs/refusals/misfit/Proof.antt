@@ -8,8 +8,8 @@ use Rattle.frames.proofs.refusals.misfit.Tie as tie
 
 returns : tie.Need-returns
 returns c =
-    let place : c.before.or_else.result ≡ pick c.before.before.args.placed 0 out_of_sequence = c.before.or_else.ensures in
-    rw (← place) c.or-else2.ensures
+    let place : c.or_else.result ≡ pick c.args.placed 0 out_of_sequence = c.or_else.ensures in
+    rw (← place) c.or_else-2.ensures
 
 pub misfit_spec : {M : Type 1} → statement M
 misfit_spec = tie.close (tie.spec (λ c κs. search rules) (λ c κs. search rules) returns)

@@ -11,13 +11,13 @@ returns c =
     let z = e.before.before in
     simp (refusal_first, none_broken)
     (rw (
-      ← n.has-numbers.ensures,
-      ← e.before.inhabited.ensures,
-      ← z.before.keeps-null-rule.ensures,
-      ← z.or_else.ensures,
-      ← e.or-else2.ensures,
+      ← n.has_numbers.ensures,
+      ← e.inhabited.ensures,
+      ← z.keeps_null_rule.ensures,
+      ← z.or_else-null.ensures,
+      ← e.or_else-empty.ensures,
     )
-    c.or-else3.ensures)
+    c.or_else.ensures)
 
 pub broken_spec : {M : Type 1} → statement M
 broken_spec =

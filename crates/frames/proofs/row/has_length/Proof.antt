@@ -5,7 +5,7 @@ use Rattle.frames.proofs.row.has_length.Statement.{statement}
 use Rattle.frames.proofs.row.has_length.Tie as tie
 
 returns : tie.Need-returns
-returns c = rw (length_bytes_of, ← c.before.count-place.ensures, ← c.byte-or-zero.ensures)
+returns c = rw (length_bytes_of, ← c.count_place-at.ensures, ← c.byte_or_zero-n.ensures)
 
 pub has_length_spec : {M : Type 1} → statement M
 has_length_spec =

@@ -15,15 +15,15 @@ returns c =
     let e = c.before.before in
     let r = e.before.before in
     let n = r.before.before in
-    let a = n.before.args in
-    let through : c.all_roots.result ≡ all_roots (take a.count a.parents.now) (take n.gateway-count.result a.r.gateways) = c.all_roots.ensures in
+    let a = n.args in
+    let through : c.all_roots.result ≡ all_roots (take a.count a.parents.now) (take n.gateway_count-n.result a.r.gateways) = c.all_roots.ensures in
     simp (
-      first_counted a.count a.parents.now n.before.requires,
-      r.is-root.ensures,
-      e.before.is-entity.ensures,
-      e.is-entity2.ensures,
+      first_counted a.count a.parents.now n.requires,
+      r.is_root.ensures,
+      e.is_entity.ensures,
+      e.is_entity-2.ensures,
       through,
-      n.gateway-count.ensures.0,
+      n.gateway_count-n.ensures.0,
       take_own a.r.count a.r.gateways,
     )
 

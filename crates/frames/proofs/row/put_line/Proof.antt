@@ -22,7 +22,7 @@ first_stored : (l vs : List ℕ) → length vs ≤ length l → take (length vs)
 first_stored l vs h = ap (take (length vs)) (sets-eq vs l 0 (omega arith)) ∙ take-append_seam vs (drop (0 + length vs) l)
 
 -- after the row's bytes are written
-module _ (c : tie.After-write) where
+module _ (c : tie.After-write-n) where
   abbrev s : tie.Start
   s = c.before.before.before
 
@@ -36,46 +36,46 @@ module _ (c : tie.After-write) where
   line = line_of all
 
   abbrev n : ℕ
-  n = c.write.result
+  n = c.write-n.result
 
   abbrev bytes : List ℕ
-  bytes = c.write.new.1.1.1.0
+  bytes = c.write-n.new.bytes
 
   -- the row's frame is no longer than they are
   room : length all ≤ most_row_bytes
   room =
       let r = s.args.r in
-      omega (arith, length_bytes_of_row (box_of s.args.address) (row_of r) refl refl, length-take r.count r.gateways, s.pre, few)
+      omega (arith, length_bytes_of_row (box_of s.args.address) (row_of r) refl refl, length-take r.count r.gateways, s.requires, few)
     where
       few : length s.args.r.gateways ≡ most_gateways
       few = search rules
 
   same : length bytes ≡ most_row_bytes
-  same = ap length c.write.ensures.0 ∙ length-sets (replicate {A = ℕ} most_row_bytes 0) 0 all ∙ length-replicate {A = ℕ} most_row_bytes 0
+  same = ap length c.write-n.ensures.0 ∙ length-sets (replicate {A = ℕ} most_row_bytes 0) 0 all ∙ length-replicate {A = ℕ} most_row_bytes 0
 
   first : take n bytes ≡ all
   first =
-      (λ i. take (c.write.ensures.1 i) (c.write.ensures.0 i))
+      (λ i. take (c.write-n.ensures.1 i) (c.write-n.ensures.0 i))
       ∙ first_stored (replicate {A = ℕ} most_row_bytes 0) all (omega (arith, room, length-replicate {A = ℕ} most_row_bytes 0))
 
   long : length line ≡ 2 * n
-  long = omega (arith, length_line_of all, c.write.ensures.1)
+  long = omega (arith, length_line_of all, c.write-n.ensures.1)
 
-short : tie.Need-returns
-short c = let k = c.before.before in let e = long k in let h = c.if1.true in writes_not (line k) (out k) (omega arith)
+short : tie.Need-returns-then-out-n
+short c = let k = c.before.before in let e = long k in let h = c.if-out-n.true in writes_not (line k) (out k) (omega arith)
 
 -- after the digits are put
 module _ (c : tie.After-put) where
-  abbrev k : tie.After-write
+  abbrev k : tie.After-write-n
   k = c.before.before.before.before.before
 
-  stored : c.put.new.1.0 ≡ sets (out k) 0 (line k)
+  stored : c.put.new.out ≡ sets (out k) 0 (line k)
   stored = c.put.ensures ∙ ap (λ (l : List ℕ). sets (out k) 0 (line_of l)) (first k)
 
-whole : tie.Need-returns-2
+whole : tie.Need-returns
 whole c =
     let p = c.before.before in
-    let h = p.before.before.before.if1.false in
+    let h = p.if-out-n.false in
     let e = long (k p) in
     writes_stored (line (k p)) (out (k p)) (omega arith) _ (sym e) (stored p)
 
@@ -85,13 +85,13 @@ put_line_spec =
     (tie.spec
     (λ c. search rules)
     (λ c κs. search rules)
-    (λ c. let k = c.before in omega (arith, room k, k.write.ensures.1))
+    (λ c. let k = c.before in omega (arith, room k, k.write-n.ensures.1))
     short
-    (λ c. let k = c.before.before in omega (arith, room k, same k, k.write.ensures.1))
-    (λ c. let k = c.before.before.before in k.write.ensures.1 ∙ ap length (sym (first k)))
+    (λ c. let k = c.before.before in omega (arith, room k, same k, k.write-n.ensures.1))
+    (λ c. let k = c.before.before.before in k.write-n.ensures.1 ∙ ap length (sym (first k)))
     (λ c κs. let k = c.before.before.before.before in
-    let h = c.before.before.if1.false in
-    omega (arith, k.write.ensures.1, ap length (first k)))
-    (λ c. let k = c.before.before.before.before.before.before.before in omega (arith, room k, k.write.ensures.1))
+    let h = c.if-out-n.false in
+    omega (arith, k.write-n.ensures.1, ap length (first k)))
+    (λ c. let k = c.before.before.before.before.before.before.before in omega (arith, room k, k.write-n.ensures.1))
     (λ c. let p = c.before.before in ap length (stored p) ∙ length-sets (out (k p)) 0 (line (k p)))
     whole)

@@ -23,7 +23,7 @@ module _ (s : tie.Start) where
 
   room : (get_or bs place 0 ≤ most_gateways) × (2 * (place + 1 + get_or bs place 0) ≤ length s.args.part.now)
   room =
-      let r = row_counted (box_of s.args.address) bs s.pre.0 in
+      let r = row_counted (box_of s.args.address) bs s.requires.0 in
       (r.0, omega (arith, r.1, length_bytes_of s.args.part.now))
 
 returns : tie.Need-returns
@@ -31,22 +31,22 @@ returns c =
     let g = c.before.before.before.before.before.before in
     let p = g.before.before in
     rw (
-      ← p.count-place.ensures,
-      g.gateways.ensures,
-      g.before.u8-at.ensures,
-      c.before.before.before.before.before.u8-at2.ensures,
-      c.before.before.before.before.u8-at3.ensures,
-      c.before.before.before.u8-at4.ensures,
-      c.before.before.u8-at5.ensures,
-      c.before.coefficients.ensures,
+      ← p.count_place-at.ensures,
+      g.gateways-g.ensures,
+      g.u8_at-count.ensures,
+      c.u8_at.ensures,
+      c.u8_at-2.ensures,
+      c.u8_at-3.ensures,
+      c.u8_at-4.ensures,
+      c.coefficients.ensures,
       c.selector.ensures,
     )
 
 -- what is read of a row lies in it, for each call
-module _ (c : tie.After-count-place) where
-  lies : (get_or (bs c.before.before) c.count-place.result 0 ≤ most_gateways)
-      × (2 * (c.count-place.result + 1 + get_or (bs c.before.before) c.count-place.result 0) ≤ length c.before.before.args.part.now)
-  lies = rw c.count-place.ensures (room c.before.before)
+module _ (c : tie.After-count_place-at) where
+  lies : (get_or (bs c.before.before) c.count_place-at.result 0 ≤ most_gateways)
+      × (2 * (c.count_place-at.result + 1 + get_or (bs c.before.before) c.count_place-at.result 0) ≤ length c.args.part.now)
+  lies = rw c.count_place-at.ensures (room c.before.before)
 
 pub read_spec : {M : Type 1} → statement M
 read_spec =
@@ -54,7 +54,7 @@ read_spec =
     (tie.spec (λ c κs. search rules)
     (λ c κs. omega (arith, lies c))
     (λ c. search rules) (λ c. search rules)
-    (λ c κs. omega (arith, lies c.before, c.u8-at.ensures))
+    (λ c κs. omega (arith, lies c.before, c.u8_at-count.ensures))
     (λ c κs. omega (arith, room c.before.before.before.before))
     (λ c κs. omega (arith, room c.before.before.before.before.before))
     (λ c κs. omega (arith, room c.before.before.before.before.before.before))

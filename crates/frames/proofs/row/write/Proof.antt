@@ -17,7 +17,7 @@ use Rattle.frames.proofs.row.write.Statement.{statement}
 use Rattle.frames.proofs.row.write.Tie as tie
 
 -- after the gateways are counted
-module _ (c : tie.After-gateway-count) where
+module _ (c : tie.After-gateway_count-n) where
   abbrev s : tie.Start
   s = c.before.before.before
 
@@ -25,33 +25,33 @@ module _ (c : tie.After-gateway-count) where
   row = row_of s.args.r
 
   abbrev n : ℕ
-  n = c.gateway-count.result
+  n = c.gateway_count-n.result
 
   abbrev gateways : List ℕ
   gateways = take n s.args.r.gateways
 
   -- those of the row, as many as it has
   own : gateways ≡ row.gateways
-  own = ap (λ (k : ℕ). take k s.args.r.gateways) c.gateway-count.ensures.0 ∙ take_own s.args.r.count s.args.r.gateways
+  own = ap (λ (k : ℕ). take k s.args.r.gateways) c.gateway_count-n.ensures.0 ∙ take_own s.args.r.count s.args.r.gateways
 
   long : n ≡ length gateways
-  long = c.gateway-count.ensures.0 ∙ ap length (sym own)
+  long = c.gateway_count-n.ensures.0 ∙ ap length (sym own)
 
   few : n ≤ length s.args.r.gateways
   few = omega (arith, long, length-take n s.args.r.gateways)
 
 -- after the gateways are stored
-module _ (c : tie.After-put-bytes3) where
-  abbrev second : tie.After-put-bytes2
+module _ (c : tie.After-put_bytes-3) where
+  abbrev second : tie.After-put_bytes-2
   second = c.before.before.before.before.before
 
-  abbrev boxed : tie.After-put-selector
+  abbrev boxed : tie.After-put_selector
   boxed = second.before.before.before.before.before
 
-  abbrev first : tie.After-put-bytes
-  first = boxed.before.before.before.before
+  abbrev first : tie.After-put_bytes
+  first = boxed.before.before.before.before.before
 
-  abbrev counted : tie.After-gateway-count
+  abbrev counted : tie.After-gateway_count-n
   counted = first.before.before.before.before
 
   abbrev start : List ℕ
@@ -81,19 +81,19 @@ module _ (c : tie.After-put-bytes3) where
       ∙ append_assoc head box (n counted ∷ gateways counted)
       ∙ (λ i. head ++ (box ++ ((long counted ∙ ap length (own counted)) i ∷ own counted i)))
 
-  stored : c.put-bytes3.new.1.0 ≡ sets start 0 all
+  stored : c.put_bytes-3.new.bytes ≡ sets start 0 all
   stored =
       let lead = length-append head box in
       let count = length-append (head ++ box) (n counted ∷ []) in
-      let place = counted.before.count-place.ensures in
+      let place = counted.count_place-at.ensures in
       let b = box_long in
-      let two = sets_after start 0 head box first.put-bytes.ensures boxed.put-selector.ensures refl in
-      let three = sets_after start 0 (head ++ box) (n counted ∷ []) two second.put-bytes2.ensures (omega arith) in
-      let four = sets_after start 0 ((head ++ box) ++ (n counted ∷ [])) (gateways counted) three c.put-bytes3.ensures (omega arith) in
+      let two = sets_after start 0 head box first.put_bytes.ensures boxed.put_selector.ensures refl in
+      let three = sets_after start 0 (head ++ box) (n counted ∷ []) two second.put_bytes-2.ensures (omega arith) in
+      let four = sets_after start 0 ((head ++ box) ++ (n counted ∷ [])) (gateways counted) three c.put_bytes-3.ensures (omega arith) in
       four ∙ ap (sets start 0) whole
 
-  size : length all ≡ 1 + counted.before.count-place.result + 1 + n counted
-  size = omega (arith, length_bytes_of_row ws r refl refl, counted.before.count-place.ensures, ap length (own counted), long counted)
+  size : length all ≡ 1 + counted.count_place-at.result + 1 + n counted
+  size = omega (arith, length_bytes_of_row ws r refl refl, counted.count_place-at.ensures, ap length (own counted), long counted)
 
 pub write_spec : {M : Type 1} → statement M
 write_spec =
@@ -107,13 +107,13 @@ write_spec =
     (λ c. search rules)
     (λ c. search rules)
     (λ c κs. search rules)
-    (λ c. few c.before.before.before.before.before.before.before.before.before.before.before.before.before.before.before)
-    (λ c. long c.before.before.before.before.before.before.before.before.before.before.before.before.before.before.before.before)
+    (λ c. few c.before.before.before.before.before.before.before.before.before.before.before.before.before.before.before.before)
+    (λ c. long c.before.before.before.before.before.before.before.before.before.before.before.before.before.before.before.before.before)
     (λ c. search rules)
     (λ c κs.
-    let k = c.before.before.before.before.before.before.before.before.before.before.before.before.before.before.before.before.before in
+    let k = c.before.before.before.before.before.before.before.before.before.before.before.before.before.before.before.before.before.before in
     let a = long k in
-    let b = k.gateway-count.ensures.1 in
+    let b = k.gateway_count-n.ensures.1 in
     search rules)
     (λ c. search rules) (λ c. search rules)
     (λ c. search rules)
