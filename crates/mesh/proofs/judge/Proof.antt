@@ -4,10 +4,10 @@ use Rattle.mesh.proofs.judge.Statement.{statement}
 use Rattle.mesh.proofs.judge.Tie as tie
 
 returns : tie.Need-returns
-returns c = rw (← c.before.cover.ensures.same) c.examine.ensures
+returns c = rw (← c.cover.ensures.same) c.examine.ensures
 
 pub judge_spec : {M : Type 1} → statement M
 judge_spec =
     tie.close
     (tie.spec (λ c κs. c.requires.0)
-    (λ c κs. let p = c.before.requires in (record { row = omega (arith, p.0.row); ordered = p.1 }, c.cover.ensures.numbers)) returns)
+    (λ c κs. let p = c.requires in (record { row = omega (arith, p.0.row); ordered = p.1 }, c.cover.ensures.numbers)) returns)

@@ -15,7 +15,7 @@ use Rattle.mesh.proofs.packet.Tie as tie
 asked : (s : tie.Start) (f : ℕ) → f < field_count
     → Listed s.args.at.now s.args.count
     × AskedField s.args.bounds.now s.args.row f
-    × (at s.args.t5 f < length (cuts_of s.args.bounds.now s.args.at.now s.args.count s.args.row f))
+    × (at s.args.c f < length (cuts_of s.args.bounds.now s.args.at.now s.args.count s.args.row f))
 asked s f l = (s.requires.0, asked_field s.args.bounds.now s.args.row f s.requires.1 l, s.requires.2 f l)
 
 returns : tie.Need-returns
@@ -23,7 +23,7 @@ returns c =
     let d = c.before in
     let e = d.before in
     let g = e.before in
-    λ i. g.before.nth.ensures i ∷ g.nth2.ensures i ∷ e.nth3.ensures i ∷ d.nth4.ensures i ∷ c.nth5.ensures i ∷ []
+    λ i. g.nth.ensures i ∷ g.nth-2.ensures i ∷ e.nth-3.ensures i ∷ d.nth-4.ensures i ∷ c.nth-5.ensures i ∷ []
 
 pub packet_spec : {M : Type 1} → statement M
 packet_spec =

@@ -17,10 +17,10 @@ use Rattle.search.proofs.Laws.Turns.{fields_from, turned_none, free_decides, cov
 use Rattle.search.proofs.hidden.Statement.{statement}
 use Rattle.search.proofs.hidden.Tie as tie
 
-abbrev I : tie.invariant-loop
+abbrev I : tie.invariant-loop-limit
 I bounds row cover lead₀ limit₀ lead limit = (lead < field_count) × (4 ≤ limit)
 
-abbrev μ : tie.decreases-loop
+abbrev μ : tie.decreases-loop-limit
 μ bounds row cover lead₀ limit₀ lead limit = 1048576 - limit
 
 module _ (s : tie.Start I μ) where
@@ -36,36 +36,36 @@ module _ (c : tie.After-walk I μ) where
   start = c.before.before.before
 
   abbrev lead : ℕ
-  lead = c.before.before.loop.lead
+  lead = c.loop-limit.lead
 
   alike : (searched (turned lead (row start)) (map (turned lead) (boxes start)) ≡ none) ↔ (searched (row start) (boxes start) ≡ none)
   alike =
-      let h = c.before.before.loop.invariant.0 in
+      let h = c.loop-limit.invariant.0 in
       turned_none lead (row start) (boxes start) (omega arith) (boxes_sized start.args.bounds.now (fields_from 0) start.args.cover)
 
-free : tie.Need-returns I μ
+free : tie.Need-returns-in-Free I μ
 free c =
     let w = c.before.before in
-    free_decides _ _ (subst (Tells w.before.before.loop.limit _) c.enum_told.given.1 w.walk.ensures) (alike w)
+    free_decides _ _ (subst (Tells w.loop-limit.limit _) c.enum_told-1.given.1 w.walk.ensures) (alike w)
 
-covered : tie.Need-returns-2 I μ
+covered : tie.Need-returns-in-Covered I μ
 covered c =
     let w = c.before.before in
-    covered_decides _ (subst (Tells w.before.before.loop.limit _) c.enum-told2.given.1 w.walk.ensures) (alike w)
+    covered_decides _ (subst (Tells w.loop-limit.limit _) c.enum_told-in-Covered-1.given.1 w.walk.ensures) (alike w)
 
 -- the walk without limit
-found : tie.Need-returns-3 I μ
-found c = free_decides _ _ (sym (ap result_of c.enum-told4.given.1) ∙ c.before.before.search.ensures) (λ e. e, λ e. e)
+found : tie.Need-returns-in-Packet I μ
+found c = free_decides _ _ (sym (ap result_of c.enum_told-in-Packet-1.given.1) ∙ c.search.ensures) (λ e. e, λ e. e)
 
-nothing : tie.Need-returns-4 I μ
-nothing c = covered_decides _ (sym (ap result_of c.enum-told5.given.1) ∙ c.before.before.search.ensures) (λ e. e, λ e. e)
+nothing : tie.Need-returns-in-Nothing I μ
+nothing c = covered_decides _ (sym (ap result_of c.enum_told-in-Nothing-1.given.1) ∙ c.search.ensures) (λ e. e, λ e. e)
 
 pub hidden_spec : {M : Type 1} → statement M
 hidden_spec =
     tie.close
     (tie.spec I μ (λ c. (omega arith, omega arith))
-    (λ c κs. (c.before.before.requires.0, c.before.before.requires.1, c.before.loop.invariant.0)) (λ c. c.match.keys1) free (λ c. c.match.keys2) covered
-    (λ c. c.match.keys3) (λ c. search rules) (λ c. search rules)
-    (λ c. let l = c.before.before.before.before.loop.invariant.1 in let t = c.before.before.before.loop-test.true in omega arith)
-    (λ c. let l = c.before.before.before.before.loop.invariant.1 in (omega arith, omega arith)) (λ c κs. search rules) (λ c. c.match2.keys1) (λ c. c.match2.keys2)
+    (λ c κs. (c.requires.0, c.requires.1, c.loop-limit.invariant.0)) (λ c. c.in-Stopped.keys1) free (λ c. c.in-Stopped.keys2) covered
+    (λ c. c.in-Stopped.keys3) (λ c. search rules) (λ c. search rules)
+    (λ c. let l = c.loop-limit.invariant.1 in let t = c.loop-limit-test.true in omega arith)
+    (λ c. let l = c.loop-limit.invariant.1 in (omega arith, omega arith)) (λ c κs. search rules) (λ c. c.in-Nothing.keys1) (λ c. c.in-Nothing.keys2)
     found nothing)

@@ -8,16 +8,16 @@ use Rattle.search.proofs.Laws.Turns.{search_unturned}
 use Rattle.search.proofs.search.Statement.{statement}
 use Rattle.search.proofs.search.Tie as tie
 
-free : tie.Need-returns
+free : tie.Need-returns-in-Free
 free c =
     let k = c.before.before in
-    ap found c.packet.ensures ∙ subst (Tells 0 _) k.v.given.1 k.before.before.walk.ensures ∙ search_unturned _ _
+    ap found c.packet.ensures ∙ subst (Tells 0 _) k.v.given.1 k.walk.ensures ∙ search_unturned _ _
 
-covered : tie.Need-returns-2
-covered c = subst (Tells 0 _) c.enum_told.given.1 c.before.before.walk.ensures ∙ search_unturned _ _
+covered : tie.Need-returns-in-Covered
+covered c = subst (Tells 0 _) c.enum_told-1.given.1 c.walk.ensures ∙ search_unturned _ _
 
-stopped : tie.Need-returns-3
-stopped c = absurd (subst (Tells 0 _) c.enum-told2.given.1 c.before.before.walk.ensures refl)
+stopped : tie.Need-returns-in-Stopped
+stopped c = absurd (subst (Tells 0 _) c.enum_told-in-Stopped-1.given.1 c.walk.ensures refl)
 
 pub search_spec : {M : Type 1} → statement M
 search_spec =

@@ -4,4 +4,4 @@ use Rattle.mesh.proofs.blocks.lasting.Statement.{statement}
 use Rattle.mesh.proofs.blocks.lasting.Tie as tie
 
 pub lasting_spec : {M : Type 1} → statement M
-lasting_spec = tie.close (tie.spec (λ c. rw (eq-eqb _ _ c.if1.true)) (λ c. rw (ne_eqb _ _ c.if1.false)))
+lasting_spec = tie.close (tie.spec (λ c. rw (eq-eqb _ _ c.if-boxes-last-eq0.true)) (λ c. rw (ne_eqb _ _ c.if-boxes-last-eq0.false)))

@@ -10,8 +10,8 @@ use Rattle.mesh.proofs.cuts.nearer.Tie as tie
 pub nearer_spec : {M : Type 1} → statement M
 nearer_spec =
     tie.close
-    (tie.spec (λ c. c.match.keys1) (λ c κs. search rules) (λ c. c.match.keys2)
+    (tie.spec (λ c. c.in-End.keys1) (λ c κs. search rules) (λ c. c.in-End.keys2)
     (λ c.
     ap comes c.lesser.ensures
-    ∙ sym (ap (λ n. nearer_of (value c.before.before.before.before.args.x) (next_of n)) c.before.before.next.given.1))
-    (λ c. sym (ap (λ n. nearer_of (value c.before.before.args.x) (next_of n)) c.enum_told.given.1)))
+    ∙ sym (ap (λ n. nearer_of (value c.args.x) (next_of n)) c.next.given.1))
+    (λ c. sym (ap (λ n. nearer_of (value c.args.x) (next_of n)) c.enum_told-1.given.1)))

@@ -9,6 +9,6 @@ use Rattle.mesh.proofs.cuts.reached.Tie as tie
 pub reached_spec : {M : Type 1} → statement M
 reached_spec =
     tie.close
-    (tie.spec (λ c. c.match.keys1) (λ c. c.match.keys2)
-    (λ c. sym (ap (λ n. reached_of (next_of n) (value c.before.before.before.args.v)) c.before.next.given.1))
-    (λ c. sym (ap (λ n. reached_of (next_of n) (value c.before.before.args.v)) c.enum_told.given.1)))
+    (tie.spec (λ c. c.in-End.keys1) (λ c. c.in-End.keys2)
+    (λ c. sym (ap (λ n. reached_of (next_of n) (value c.args.v)) c.next.given.1))
+    (λ c. sym (ap (λ n. reached_of (next_of n) (value c.args.v)) c.enum_told-1.given.1)))

@@ -12,31 +12,31 @@ use Rattle.mesh.proofs.Laws.Nearest.{cut_passed, cut_outside, cut_taken}
 use Rattle.mesh.proofs.cuts.with_high.Statement.{statement}
 use Rattle.mesh.proofs.cuts.with_high.Tie as tie
 
-outside : tie.Need-returns
+outside : tie.Need-returns-then-at_most
 outside c =
-    let a = c.before.before.args in
-    let h : value a.r.high ≤ value a.high = leb-true _ _ (sym c.before.at_most.ensures ∙ c.if1.true) in
+    let a = c.args in
+    let h : value a.r.high ≤ value a.high = leb-true _ _ (sym c.at_most.ensures ∙ c.if-at_most.true) in
     sym (cut_outside (range_of a.r) (value a.v) (value a.high + 1) (next_of a.next) (omega arith))
 
 below : tie.Need-next-requires
-below c κs = leb-false _ _ (sym c.before.before.before.at_most.ensures ∙ c.before.before.if1.false)
+below c κs = leb-false _ _ (sym c.at_most.ensures ∙ c.if-at_most.false)
 
-taken : tie.Need-returns-2
+taken : tie.Need-returns-then-at_most-2
 taken c =
     let i = c.before.before in
     let j = i.before.before in
-    let a = j.before.before.args in
-    let e : value c.before.next.result ≡ value a.high + 1 = c.before.next.ensures ∙ sym (add-one (value a.high)) in
-    let l : value a.v ≤ value a.high = leb-true _ _ (sym i.before.at-most2.ensures ∙ i.if2.true) in
-    let h : value a.high < value a.r.high = leb-false _ _ (sym j.before.at_most.ensures ∙ j.if1.false) in
+    let a = j.args in
+    let e : value c.next.result ≡ value a.high + 1 = c.next.ensures ∙ sym (add-one (value a.high)) in
+    let l : value a.v ≤ value a.high = leb-true _ _ (sym i.at_most-2.ensures ∙ i.if-at_most-2.true) in
+    let h : value a.high < value a.r.high = leb-false _ _ (sym j.at_most.ensures ∙ j.if-at_most.false) in
     c.nearer.ensures
     ∙ ap (λ (x : ℕ). nearer_of x (next_of a.next)) e
     ∙ sym (cut_taken (range_of a.r) (value a.v) (value a.high + 1) (next_of a.next) (omega arith) (omega arith))
 
-passed : tie.Need-returns-3
+passed : tie.Need-returns
 passed c =
-    let a = c.before.before.before.before.args in
-    let l : value a.high < value a.v = leb-false _ _ (sym c.before.at-most2.ensures ∙ c.if2.false) in
+    let a = c.args in
+    let l : value a.high < value a.v = leb-false _ _ (sym c.at_most-2.ensures ∙ c.if-at_most-2.false) in
     sym (cut_passed (range_of a.r) (value a.v) (value a.high + 1) (next_of a.next) (omega arith))
 
 pub with_high_spec : {M : Type 1} → statement M

@@ -9,28 +9,28 @@ use Rattle.reader.proofs.Laws.Lines.{length_feed, length_other, length_end}
 use Rattle.reader.proofs.lines.line_end.Statement.{statement}
 use Rattle.reader.proofs.lines.line_end.Tie as tie
 
-abbrev I : tie.invariant-loop
+abbrev I : tie.invariant-loop-i
 I text start i₀ i = (i ≤ length text) × (i + line_length (drop i text) ≡ start + line_length (drop start text))
 
-abbrev μ : tie.decreases-loop
+abbrev μ : tie.decreases-loop-i
 μ text start i₀ i = length text - i
 
-found : tie.Need-returns I μ
+found : tie.Need-returns-then-text-i-eq-LINE_FEED I μ
 found c =
     let l = c.before.before.before in
-    let e = length_feed l.before.args.text.now l.loop.i c.before.before.loop-test.true c.if1.true in
+    let e = length_feed l.args.text.now l.loop-i.i c.loop-i-test.true c.if-text-i-eq-LINE_FEED.true in
     omega arith
 
-again : tie.Need-loop-preserved I μ
+again : tie.Need-loop-i-preserved I μ
 again c =
     let l = c.before.before.before in
-    let e = length_other l.before.args.text.now l.loop.i c.before.before.loop-test.true c.if1.false in
+    let e = length_other l.args.text.now l.loop-i.i c.loop-i-test.true c.if-text-i-eq-LINE_FEED.false in
     (omega arith, omega arith)
 
-none : tie.Need-returns-2 I μ
+none : tie.Need-returns I μ
 none c =
     let l = c.before in
-    let e = length_end l.before.args.text.now l.loop.i c.loop-test.false in
+    let e = length_end l.args.text.now l.loop-i.i c.loop-i-test.false in
     omega arith
 
 pub line_end_spec : {M : Type 1} → statement M

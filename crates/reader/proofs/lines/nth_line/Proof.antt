@@ -11,45 +11,45 @@ use Rattle.reader.proofs.lines.nth_line.Statement.{statement}
 use Rattle.reader.proofs.lines.nth_line.Tie as tie
 
 -- the line is the first of those from its start on
-module _ (c : tie.After-line-end) where
+module _ (c : tie.After-line_end-end) where
   abbrev text : List ℕ
-  text = c.before.before.before.args.text.now
+  text = c.args.text.now
 
   abbrev start : ℕ
-  start = c.before.line-start.result
+  start = c.line_start-start.result
 
   abbrev end : ℕ
-  end = c.line_end.result
+  end = c.line_end-end.result
 
   within : end ≤ length text
   within =
-      let h = start_within text c.before.before.before.args.n in
-      let e : start ≡ _ = c.before.line-start.ensures in
-      end_within text start end c.line_end.ensures (omega arith)
+      let h = start_within text c.args.n in
+      let e : start ≡ _ = c.line_start-start.ensures in
+      end_within text start end c.line_end-end.ensures (omega arith)
 
-  first : get_or (lines_of text) c.before.before.before.args.n [] ≡ get_or (lines_of (drop start text)) 0 []
+  first : get_or (lines_of text) c.args.n [] ≡ get_or (lines_of (drop start text)) 0 []
   first =
-      line_at text c.before.before.before.args.n
-      ∙ ap (λ (k : ℕ). get_or (lines_of (drop k text)) 0 []) (sym c.before.line-start.ensures)
+      line_at text c.args.n
+      ∙ ap (λ (k : ℕ). get_or (lines_of (drop k text)) 0 []) (sym c.line_start-start.ensures)
 
-requires : tie.Need-line-end-requires
+requires : tie.Need-line_end-end-requires
 requires c κs =
-    let h = start_within c.before.before.args.text.now c.before.before.args.n in
-    let e : c.line-start.result ≡ _ = c.line-start.ensures in
+    let h = start_within c.args.text.now c.args.n in
+    let e : c.line_start-start.result ≡ _ = c.line_start-start.ensures in
     omega arith
 
-none : tie.Need-returns
+none : tie.Need-returns-then-end-text
 none c =
     let e = c.before.before in
-    let t : end e ≡ length (text e) = c.before.if1.true in
-    let x = lines_unended (text e) (start e) (end e) e.line_end.ensures (omega arith) in
+    let t : end e ≡ length (text e) = c.if-end-text.true in
+    let x = lines_unended (text e) (start e) (end e) e.line_end-end.ensures (omega arith) in
     sym (first e ∙ ap (λ (ls : List (List ℕ)). get_or ls 0 []) x)
 
-found : tie.Need-returns-2
+found : tie.Need-returns
 found c =
     let e = c.before.before in
-    let h : end e < length (text e) = omega (arith, within e, c.before.if1.false) in
-    let x = lines_ended (text e) (start e) (end e) e.line_end.ensures h in
+    let h : end e < length (text e) = omega (arith, within e, c.if-end-text.false) in
+    let x = lines_ended (text e) (start e) (end e) e.line_end-end.ensures h in
     sym (first e ∙ ap (λ (ls : List (List ℕ)). get_or ls 0 []) x)
 
 pub nth_line_spec : {M : Type 1} → statement M

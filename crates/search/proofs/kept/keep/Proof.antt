@@ -9,30 +9,30 @@ use Rattle.search.proofs.Laws.Kept.{Shifting, shifting_start, shifting_next, shi
 use Rattle.search.proofs.kept.keep.Statement.{statement}
 use Rattle.search.proofs.kept.keep.Tie as tie
 
-abbrev I : tie.invariant-loop
+abbrev I : tie.invariant-loop-j
 I kept₀ cover carried₀ j₀ kept carried j = (j ≤ kept_covers) × Shifting kept₀ cover kept carried j
 
-abbrev μ : tie.decreases-loop
+abbrev μ : tie.decreases-loop-j
 μ kept₀ cover carried₀ j₀ kept carried j = kept_covers - j
 
-long : (l : tie.At-loop I μ) → length l.loop.auto ≡ kept_covers
-long l = let e = l.loop.invariant.1.long in let s = l.before.requires in omega arith
+long : (l : tie.At-loop-j I μ) → length l.loop-j.auto ≡ kept_covers
+long l = let e = l.loop-j.invariant.1.long in let s = l.requires in omega arith
 
 pub keep_spec : {M : Type 1} → statement M
 keep_spec =
     tie.close
     (tie.spec I μ (λ c. (omega arith, shifting_start _ _)) (λ c. search rules)
-    (λ c. let n = long c.before in let h = c.loop-test.true in omega arith) (λ c. search rules)
-    (λ c. let n = long c.before.before in let h = c.before.loop-test.true in omega arith)
+    (λ c. let n = long c.before in let h = c.loop-j-test.true in omega arith) (λ c. search rules)
+    (λ c. let n = long c.before.before in let h = c.loop-j-test.true in omega arith)
     (λ c.
     let l = c.before.before.before in
     let n = long l in
-    let h = c.before.before.loop-test.true in
-    shifting_stop _ _ _ _ _ l.loop.invariant.1 (omega arith) c.if1.true)
+    let h = c.loop-j-test.true in
+    shifting_stop _ _ _ _ _ l.loop-j.invariant.1 (omega arith) c.if-c-cover.true)
     (λ c. search rules) (λ c. search rules)
     (λ c.
     let l = c.before.before.before in
     let n = long l in
-    let h = c.before.before.loop-test.true in
-    (omega arith, shifting_next _ _ _ _ _ l.loop.invariant.1 (omega arith) c.if1.false))
-    (λ c. let n = long c.before in let h = c.loop-test.false in shifting_end _ _ _ _ _ c.before.loop.invariant.1 (omega arith)))
+    let h = c.loop-j-test.true in
+    (omega arith, shifting_next _ _ _ _ _ l.loop-j.invariant.1 (omega arith) c.if-c-cover.false))
+    (λ c. let n = long c.before in let h = c.loop-j-test.false in shifting_end _ _ _ _ _ c.loop-j.invariant.1 (omega arith)))

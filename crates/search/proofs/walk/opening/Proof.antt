@@ -4,4 +4,4 @@ use Rattle.search.proofs.walk.opening.Statement.{statement}
 use Rattle.search.proofs.walk.opening.Tie as tie
 
 pub opening_spec : {M : Type 1} → statement M
-opening_spec = tie.close (tie.spec (λ c. rw (eq-eqb _ _ c.if1.true)) (λ c. rw (ne_eqb _ _ c.if1.false)))
+opening_spec = tie.close (tie.spec (λ c. rw (eq-eqb _ _ c.if-cover-eq0.true)) (λ c. rw (ne_eqb _ _ c.if-cover-eq0.false)))

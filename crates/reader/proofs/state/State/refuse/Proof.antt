@@ -9,7 +9,7 @@ use Rattle.reader.proofs.state.State.refuse.Tie as tie
 returns : tie.Need-returns
 returns c =
     let s = c.before.before in
-    let e = c.before.lines-before.ensures in
+    let e = c.lines_before-before.ensures in
     record {
       ready = search (s.requires.0.unused, rules);
       reads = λ p h.

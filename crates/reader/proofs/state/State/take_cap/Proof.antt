@@ -25,22 +25,22 @@ use Rattle.reader.proofs.state.State.take_cap.Tie as tie
 
 module _ (s : tie.Start) where
   abbrev r : State
-  r = s.args.t1
+  r = s.args.self
 
   abbrev bs : List ℕ
   bs = bytes_of s.args.part.now
 
   counts : (p : Progress) → Has r p → Counted r p
-  counts = counted r s.good.0 s.pre.0
+  counts = counted r s.good.0 s.requires.0
 
 -- the tests of its form and its place
-fit : (c : tie.After-misfit) → let s = c.before.before.before.before.before in Fit (r s) of_cap (bs s) c.misfit.result
+fit : (c : tie.After-misfit-n) → let s = c.before.before.before.before.before in Fit (r s) of_cap (bs s) c.misfit-n.result
 fit c =
     let s = c.before.before.before.before.before in
     let t = c.before in
-    fit_by (r s) of_cap (bs s) t.before.before.has-length.result t.has-place.result t.before.before.has-length.ensures
-    (λ p h. let n = counts s p h in rw (n.caps, n.entities, ← t.before.technology.ensures) t.has-place.ensures)
-    c.misfit.ensures
+    fit_by (r s) of_cap (bs s) t.has_length.result t.has_place.result t.has_length.ensures
+    (λ p h. let n = counts s p h in rw (n.caps, n.entities, ← t.technology.ensures) t.has_place.ensures)
+    c.misfit-n.ensures
 
 -- there is room for it
 abbrev entry : tie.After-read → tie.Start
@@ -50,18 +50,18 @@ room : (c : tie.After-read) → (r (entry c)).capped < technologies
 room c =
     let i = c.before in
     let s = entry c in
-    let few = few_caps (progress_of (r s)) (cap_kind.value (bs s)) (has_room (fit i.before) i.if1.false) in
+    let few = few_caps (progress_of (r s)) (cap_kind.value (bs s)) (has_room (fit i.before) i.if-n-ne0.false) in
     omega (arith, (counts s (progress_of (r s)) (has_own (r s))).caps)
 
-value : tie.Need-returns-2
+value : tie.Need-returns
 value c =
     let i = c.before in
     let s = entry c in
     let t = r s in
     let z = (state_sized t s.good.0).caps in
     let k = room c in
-    by_value (fit i.before) i.if1.false (record { same = λ p h. none_broken }) refl s.pre.1
-    (search (s.pre.0.unused, rules))
+    by_value (fit i.before) i.if-n-ne0.false (record { same = λ p h. none_broken }) refl s.requires.1
+    (search (s.requires.0.unused, rules))
     (λ p h.
     let grown : map coefficients_of (take (t.capped + 1) (set t.caps t.capped c.read.result)) ≡ p.table.caps ++ (cap_from (bs s) ∷ []) =
     rw (add-one, take-suc-set t.caps t.capped c.read.result (omega arith), map-append) (λ j. h.caps j ++ (c.read.ensures j ∷ [])) in
@@ -71,6 +71,6 @@ pub take_cap_spec : {M : Type 1} → statement M
 take_cap_spec =
     tie.close
     (tie.spec (λ c κs. search rules) (λ c κs. search rules) (λ c κs. search rules) (λ c κs. search rules) (λ c κs. search rules)
-    (λ c. by_misfit (fit c.before.before) c.before.if1.true c.refuse.ensures)
-    (λ c κs. bytes_there c.before.before.before.before.before.before.args.part.now 4 (has_form (fit c.before) c.if1.false))
+    (λ c. by_misfit (fit c.before.before) c.if-n-ne0.true c.refuse.ensures)
+    (λ c κs. bytes_there c.args.part.now 4 (has_form (fit c.before) c.if-n-ne0.false))
     (λ c. search rules) (λ c. room c) (λ c. search rules) value)

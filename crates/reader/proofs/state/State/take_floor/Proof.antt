@@ -23,22 +23,22 @@ module _ (s : tie.Start) where
   bs = bytes_of s.args.part.now
 
   counts : (p : Progress) → Has r p → Counted r p
-  counts = counted r s.good.0 s.pre.0
+  counts = counted r s.good.0 s.requires.0
 
 -- the tests of its form and its place
-fit : (c : tie.After-misfit) → let s = c.before.before.before.before in Fit (r s) of_floor (bs s) c.misfit.result
+fit : (c : tie.After-misfit-n) → let s = c.before.before.before.before in Fit (r s) of_floor (bs s) c.misfit-n.result
 fit c =
     let s = c.before.before.before.before in
     let t = c.before in
-    fit_by (r s) of_floor (bs s) t.before.has-length.result t.has-place.result t.before.has-length.ensures
-    (λ p h. let n = counts s p h in rw (n.caps, n.floored) t.has-place.ensures)
-    c.misfit.ensures
+    fit_by (r s) of_floor (bs s) t.has_length.result t.has_place.result t.has_length.ensures
+    (λ p h. let n = counts s p h in rw (n.caps, n.floored) t.has_place.ensures)
+    c.misfit-n.ensures
 
-value : tie.Need-returns-2
+value : tie.Need-returns
 value c =
     let i = c.before in
     let s = i.before.before.before.before.before in
-    by_value (fit i.before) i.if1.false (record { same = λ p h. none_broken }) refl s.requires.1
+    by_value (fit i.before) i.if-n-ne0.false (record { same = λ p h. none_broken }) refl s.requires.1
     (search (s.requires.0.unused, rules))
     (λ p h. search rules)
 
@@ -46,6 +46,6 @@ pub take_floor_spec : {M : Type 1} → statement M
 take_floor_spec =
     tie.close
     (tie.spec (λ c κs. search rules) (λ c κs. search rules) (λ c κs. search rules) (λ c κs. search rules)
-    (λ c. by_misfit (fit c.before.before) c.before.if1.true c.refuse.ensures)
-    (λ c κs. bytes_there c.before.before.before.before.before.args.part.now 3 (has_form (fit c.before) c.if1.false))
+    (λ c. by_misfit (fit c.before.before) c.if-n-ne0.true c.refuse.ensures)
+    (λ c κs. bytes_there c.args.part.now 3 (has_form (fit c.before) c.if-n-ne0.false))
     value)
