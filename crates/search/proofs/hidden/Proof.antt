@@ -45,27 +45,27 @@ module _ (c : tie.After-walk I μ) where
 
 free : tie.Need-returns-in-Free I μ
 free c =
-    let w = c.before.before in
-    free_decides _ _ (subst (Tells w.loop-limit.limit _) c.enum_told-1.given.1 w.walk.ensures) (alike w)
+    let w = c.before in
+    free_decides _ _ (subst (Tells w.loop-limit.limit _) c.in-Free.is w.walk.ensures) (alike w)
 
 covered : tie.Need-returns-in-Covered I μ
 covered c =
-    let w = c.before.before in
-    covered_decides _ (subst (Tells w.loop-limit.limit _) c.enum_told-in-Covered-1.given.1 w.walk.ensures) (alike w)
+    let w = c.before in
+    covered_decides _ (subst (Tells w.loop-limit.limit _) c.in-Covered.is w.walk.ensures) (alike w)
 
 -- the walk without limit
 found : tie.Need-returns-in-Packet I μ
-found c = free_decides _ _ (sym (ap result_of c.enum_told-in-Packet-1.given.1) ∙ c.search.ensures) (λ e. e, λ e. e)
+found c = free_decides _ _ (sym (ap result_of c.in-Packet.is) ∙ c.search.ensures) (λ e. e, λ e. e)
 
 nothing : tie.Need-returns-in-Nothing I μ
-nothing c = covered_decides _ (sym (ap result_of c.enum_told-in-Nothing-1.given.1) ∙ c.search.ensures) (λ e. e, λ e. e)
+nothing c = covered_decides _ (sym (ap result_of c.in-Nothing.is) ∙ c.search.ensures) (λ e. e, λ e. e)
 
 pub hidden_spec : {M : Type 1} → statement M
 hidden_spec =
     tie.close
     (tie.spec I μ (λ c. (omega arith, omega arith))
-    (λ c κs. (c.requires.0, c.requires.1, c.loop-limit.invariant.0)) (λ c. c.in-Stopped.keys1) free (λ c. c.in-Stopped.keys2) covered
-    (λ c. c.in-Stopped.keys3) (λ c. search rules) (λ c. search rules)
+    (λ c κs. (c.requires.0, c.requires.1, c.loop-limit.invariant.0)) (λ c. search rules) free (λ c. search rules) covered
+    (λ c. search rules) (λ c. search rules) (λ c. search rules)
     (λ c. let l = c.loop-limit.invariant.1 in let t = c.loop-limit-test.true in omega arith)
-    (λ c. let l = c.loop-limit.invariant.1 in (omega arith, omega arith)) (λ c κs. search rules) (λ c. c.in-Nothing.keys1) (λ c. c.in-Nothing.keys2)
+    (λ c. let l = c.loop-limit.invariant.1 in (omega arith, omega arith)) (λ c κs. search rules) (λ c. search rules) (λ c. search rules)
     found nothing)

@@ -11,13 +11,13 @@ use Rattle.search.proofs.search.Tie as tie
 free : tie.Need-returns-in-Free
 free c =
     let k = c.before.before in
-    ap found c.packet.ensures ∙ subst (Tells 0 _) k.v.given.1 k.walk.ensures ∙ search_unturned _ _
+    ap found c.packet.ensures ∙ subst (Tells 0 _) c.in-Free.is k.walk.ensures ∙ search_unturned _ _
 
 covered : tie.Need-returns-in-Covered
-covered c = subst (Tells 0 _) c.enum_told-1.given.1 c.walk.ensures ∙ search_unturned _ _
+covered c = subst (Tells 0 _) c.in-Covered.is c.walk.ensures ∙ search_unturned _ _
 
 stopped : tie.Need-returns-in-Stopped
-stopped c = absurd (subst (Tells 0 _) c.enum_told-in-Stopped-1.given.1 c.walk.ensures refl)
+stopped c = absurd (subst (Tells 0 _) c.in-Stopped.is c.walk.ensures refl)
 
 pub search_spec : {M : Type 1} → statement M
 search_spec =

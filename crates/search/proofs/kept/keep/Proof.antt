@@ -15,23 +15,23 @@ I kept₀ cover carried₀ j₀ kept carried j = (j ≤ kept_covers) × Shifting
 abbrev μ : tie.decreases-loop-j
 μ kept₀ cover carried₀ j₀ kept carried j = kept_covers - j
 
-long : (l : tie.At-loop-j I μ) → length l.loop-j.auto ≡ kept_covers
+long : (l : tie.At-loop-j I μ) → length l.loop-j.kept ≡ kept_covers
 long l = let e = l.loop-j.invariant.1.long in let s = l.requires in omega arith
 
 pub keep_spec : {M : Type 1} → statement M
 keep_spec =
     tie.close
     (tie.spec I μ (λ c. (omega arith, shifting_start _ _)) (λ c. search rules)
-    (λ c. let n = long c.before in let h = c.loop-j-test.true in omega arith) (λ c. search rules)
-    (λ c. let n = long c.before.before in let h = c.loop-j-test.true in omega arith)
+    (λ c. let n = long c.before.before in let h = c.loop-j-test.true in omega arith) (λ c. search rules)
+    (λ c. let n = long c.before.before.before in let h = c.loop-j-test.true in omega arith)
     (λ c.
-    let l = c.before.before.before in
+    let l = c.before.before.before.before in
     let n = long l in
     let h = c.loop-j-test.true in
     shifting_stop _ _ _ _ _ l.loop-j.invariant.1 (omega arith) c.if-c-cover.true)
     (λ c. search rules) (λ c. search rules)
     (λ c.
-    let l = c.before.before.before in
+    let l = c.before.before.before.before in
     let n = long l in
     let h = c.loop-j-test.true in
     (omega arith, shifting_next _ _ _ _ _ l.loop-j.invariant.1 (omega arith) c.if-c-cover.false))

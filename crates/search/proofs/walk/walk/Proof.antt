@@ -137,37 +137,37 @@ abbrev End4 : Type 0
 End4 = tie.In_default-n4 I4 m4 I3 m3 I2 m2 I1 m1 I0 m0
 
 abbrev at0 : Held0 → At0
-at0 h = h.before.before.before.before.before
+at0 h = h.before.before.before
 
 abbrev at1 : Held1 → At1
-at1 h = h.before.before.before.before.before
+at1 h = h.before.before.before
 
 abbrev at2 : Held2 → At2
-at2 h = h.before.before.before.before.before
+at2 h = h.before.before.before
 
 abbrev at3 : Held3 → At3
-at3 h = h.before.before.before.before.before.before.before
+at3 h = h.before.before.before.before.before
 
 abbrev at4 : Held4 → At4
-at4 h = h.before.before.before.before.before
+at4 h = h.before.before.before
 
 abbrev up1 : At1 → Held0
-up1 p = p.before.before.before.before
+up1 p = p.before.before.before.before.before
 
 abbrev up2 : At2 → Held1
-up2 p = p.before.before.before.before
+up2 p = p.before.before.before.before.before
 
 abbrev up3 : At3 → Held2
-up3 p = p.before.before.before.before
+up3 p = p.before.before.before.before.before
 
 abbrev up4 : At4 → Held3
-up4 p = p.before.before.before.before
+up4 p = p.before.before.before.before.before
 
 abbrev Ranges : Type 0
 Ranges = tie.After-range_at-r4 I4 m4 I3 m3 I2 m2 I1 m1 I0 m0
 
 abbrev ranges0 : At0 → Ranges
-ranges0 p = p.before.before.before.before
+ranges0 p = p.before.before.before.before.before
 
 abbrev ranges1 : At1 → Ranges
 ranges1 p = ranges0 (at0 (up1 p))
@@ -316,56 +316,56 @@ numbered4 h k i = numbered3 (up3 (at3 h)) k (h.holding-a4.ensures.part k i)
 
 stands0 : (h : Held0)
     → Stands (B (ranges0 (at0 h))) (A (ranges0 (at0 h))) (F0 (ranges0 (at0 h))) (Fs1 (ranges0 (at0 h))) (R0 (ranges0 (at0 h))) (S1 (ranges0 (at0 h)))
-    (In (a0 (at0 h))) (In (a0 (at0 h))) (at0 h).search.n0 h.n0.given.0.0 (In (a1 h))
-stands0 h = record { walked = (at0 h).search.invariant.0; value_is = h.n0.given.1; narrowed = h.holding-a1.ensures }
+    (In (a0 (at0 h))) (In (a0 (at0 h))) (at0 h).search.n0 h.in-Value.v0 (In (a1 h))
+stands0 h = record { walked = (at0 h).search.invariant.0; value_is = h.in-Value.is; narrowed = h.holding-a1.ensures }
 
 stands1 : (h : Held1)
     → Stands (B (ranges1 (at1 h))) (A (ranges1 (at1 h))) (F1 (ranges1 (at1 h))) (Fs2 (ranges1 (at1 h))) (R1 (ranges1 (at1 h))) (S2 (ranges1 (at1 h)))
-    (In (a1 (up1 (at1 h)))) (In (at1 h).loop-n1.k1) (at1 h).loop-n1.n1 h.n1.given.0.0 (In (a2 h))
-stands1 h = record { walked = (at1 h).loop-n1.invariant.0; value_is = h.n1.given.1; narrowed = h.holding-a2.ensures }
+    (In (a1 (up1 (at1 h)))) (In (at1 h).loop-n1.k1) (at1 h).loop-n1.n1 h.in-Value-n1.v1 (In (a2 h))
+stands1 h = record { walked = (at1 h).loop-n1.invariant.0; value_is = h.in-Value-n1.is; narrowed = h.holding-a2.ensures }
 
 stands2 : (h : Held2)
     → Stands (B (ranges2 (at2 h))) (A (ranges2 (at2 h))) (F2 (ranges2 (at2 h))) (Fs3 (ranges2 (at2 h))) (R2 (ranges2 (at2 h))) (S3 (ranges2 (at2 h)))
-    (In (a2 (up2 (at2 h)))) (In (at2 h).loop-n2.k2) (at2 h).loop-n2.n2 h.n2.given.0.0 (In (a3 h))
-stands2 h = record { walked = (at2 h).loop-n2.invariant.0; value_is = h.n2.given.1; narrowed = h.holding-a3.ensures }
+    (In (a2 (up2 (at2 h)))) (In (at2 h).loop-n2.k2) (at2 h).loop-n2.n2 h.in-Value-n2.v2 (In (a3 h))
+stands2 h = record { walked = (at2 h).loop-n2.invariant.0; value_is = h.in-Value-n2.is; narrowed = h.holding-a3.ensures }
 
 stands3 : (h : Held3)
     → Stands (B (ranges3 (at3 h))) (A (ranges3 (at3 h))) (F3 (ranges3 (at3 h))) (Fs4 (ranges3 (at3 h))) (R3 (ranges3 (at3 h))) (S4 (ranges3 (at3 h)))
-    (In (a3 (up3 (at3 h)))) (In (at3 h).loop-n3.k3) (at3 h).loop-n3.n3 h.n3.given.0.0 (In (a4 h))
-stands3 h = record { walked = (at3 h).loop-n3.invariant.0; value_is = h.n3.given.1; narrowed = h.holding-a4.ensures }
+    (In (a3 (up3 (at3 h)))) (In (at3 h).loop-n3.k3) (at3 h).loop-n3.n3 h.in-Value-n3.v3 (In (a4 h))
+stands3 h = record { walked = (at3 h).loop-n3.invariant.0; value_is = h.in-Value-n3.is; narrowed = h.holding-a4.ensures }
 
 -- the boxes that are left past the last field
 abbrev left4 : Held4 → ℕ → Type 0
 left4 h =
     Holding (field_of (B (ranges4 (at4 h))) (A (ranges4 (at4 h))) (F4 (ranges4 (at4 h))))
-    (a4 (up4 (at4 h))) (value h.n4.given.0.0)
+    (a4 (up4 (at4 h))) (value h.in-Value-n4.v4)
 
 stands4 : (h : Held4)
     → Stands (B (ranges4 (at4 h))) (A (ranges4 (at4 h))) (F4 (ranges4 (at4 h))) [] (R4 (ranges4 (at4 h))) []
-    (In (a4 (up4 (at4 h)))) (In (at4 h).loop-n4.k4) (at4 h).loop-n4.n4 h.n4.given.0.0 (left4 h)
-stands4 h = record { walked = (at4 h).loop-n4.invariant; value_is = h.n4.given.1; narrowed = left_last _ _ _ }
+    (In (a4 (up4 (at4 h)))) (In (at4 h).loop-n4.k4) (at4 h).loop-n4.n4 h.in-Value-n4.v4 (left4 h)
+stands4 h = record { walked = (at4 h).loop-n4.invariant; value_is = h.in-Value-n4.is; narrowed = left_last _ _ _ }
 
 -- ---- why each value comes to nothing: the next field has a cover, or a box is left past the last
 
 fails1 : (d : End1)
-    → Fails (B (ranges1 d.before.before)) (A (ranges1 d.before.before)) (Fs1 (ranges1 d.before.before))
-    (S1 (ranges1 d.before.before)) (In (a1 (up1 d.before.before))) d.loop-n1.k1
-fails1 d = level_fails _ _ _ _ _ _ _ _ _ d.loop-n1.invariant.0 d.enum_told-in_default-n1-1.given.1
+    → Fails (B (ranges1 d.before)) (A (ranges1 d.before)) (Fs1 (ranges1 d.before))
+    (S1 (ranges1 d.before)) (In (a1 (up1 d.before))) d.loop-n1.k1
+fails1 d = level_fails _ _ _ _ _ _ _ _ _ d.loop-n1.invariant.0 d.in_default-n1.is
 
 fails2 : (d : End2)
-    → Fails (B (ranges2 d.before.before)) (A (ranges2 d.before.before)) (Fs2 (ranges2 d.before.before))
-    (S2 (ranges2 d.before.before)) (In (a2 (up2 d.before.before))) d.loop-n2.k2
-fails2 d = level_fails _ _ _ _ _ _ _ _ _ d.loop-n2.invariant.0 d.enum_told-in_default-n2-1.given.1
+    → Fails (B (ranges2 d.before)) (A (ranges2 d.before)) (Fs2 (ranges2 d.before))
+    (S2 (ranges2 d.before)) (In (a2 (up2 d.before))) d.loop-n2.k2
+fails2 d = level_fails _ _ _ _ _ _ _ _ _ d.loop-n2.invariant.0 d.in_default-n2.is
 
 fails3 : (d : End3)
-    → Fails (B (ranges3 d.before.before)) (A (ranges3 d.before.before)) (Fs3 (ranges3 d.before.before))
-    (S3 (ranges3 d.before.before)) (In (a3 (up3 d.before.before))) d.loop-n3.k3
-fails3 d = level_fails _ _ _ _ _ _ _ _ _ d.loop-n3.invariant.0 d.enum_told-in_default-n3-1.given.1
+    → Fails (B (ranges3 d.before)) (A (ranges3 d.before)) (Fs3 (ranges3 d.before))
+    (S3 (ranges3 d.before)) (In (a3 (up3 d.before))) d.loop-n3.k3
+fails3 d = level_fails _ _ _ _ _ _ _ _ _ d.loop-n3.invariant.0 d.in_default-n3.is
 
 fails4 : (d : End4)
-    → Fails (B (ranges4 d.before.before)) (A (ranges4 d.before.before)) (Fs4 (ranges4 d.before.before))
-    (S4 (ranges4 d.before.before)) (In (a4 (up4 d.before.before))) d.loop-n4.k4
-fails4 d = level_fails _ _ _ _ _ _ _ _ _ d.loop-n4.invariant d.enum_told-in_default-n4-1.given.1
+    → Fails (B (ranges4 d.before)) (A (ranges4 d.before)) (Fs4 (ranges4 d.before))
+    (S4 (ranges4 d.before)) (In (a4 (up4 d.before))) d.loop-n4.k4
+fails4 d = level_fails _ _ _ _ _ _ _ _ _ d.loop-n4.invariant d.in_default-n4.is
 
 fails5 : (c : tie.Else-k5-eq0 I4 m4 I3 m3 I2 m2 I1 m1 I0 m0)
     → Fails (B (ranges4 (at4 c.before))) (A (ranges4 (at4 c.before))) [] [] (left4 c.before) c.furthest-k5.result
@@ -389,53 +389,53 @@ stopped c z =
 
 again4 : tie.Need-loop-n4-preserved I4 m4 I3 m3 I2 m2 I1 m1 I0 m0
 again4 c =
-    let d = c.before.before in
+    let d = c.before.before.before in
     level_next _ _ _ _ _ _ _ c.following-n4.result _ (stands4 d.before) (fails5 d) c.following-n4.ensures
 
 less4 : tie.Need-loop-n4-smaller I4 m4 I3 m3 I2 m2 I1 m1 I0 m0
 less4 c =
-    let d = c.before.before in
+    let d = c.before.before.before in
     level_falls _ _ _ _ _ _ _ c.following-n4.result (stands4 d.before) (fails5 d) c.following-n4.ensures
 
 again3 : tie.Need-loop-n3-preserved I4 m4 I3 m3 I2 m2 I1 m1 I0 m0
 again3 c =
-    let d = c.before.before.before.before in
-    (level_next _ _ _ _ _ _ _ c.following-n3.result _ (stands3 (up4 d.before.before)) (fails4 d) c.following-n3.ensures, keeps_more _ _ _ _ _ (at3 (up4 d.before.before)).loop-n3.invariant.1 (fails4 d).covers c.keep.ensures, unlimited (up4 d.before.before))
+    let d = c.before.before.before.before.before in
+    (level_next _ _ _ _ _ _ _ c.following-n3.result _ (stands3 (up4 d.before)) (fails4 d) c.following-n3.ensures, keeps_more _ _ _ _ _ (at3 (up4 d.before)).loop-n3.invariant.1 (fails4 d).covers c.keep.ensures, unlimited (up4 d.before))
 
 less3 : tie.Need-loop-n3-smaller I4 m4 I3 m3 I2 m2 I1 m1 I0 m0
 less3 c =
-    let d = c.before.before.before.before in
-    level_falls _ _ _ _ _ _ _ c.following-n3.result (stands3 (up4 d.before.before)) (fails4 d) c.following-n3.ensures
+    let d = c.before.before.before.before.before in
+    level_falls _ _ _ _ _ _ _ c.following-n3.result (stands3 (up4 d.before)) (fails4 d) c.following-n3.ensures
 
 again2 : tie.Need-loop-n2-preserved I4 m4 I3 m3 I2 m2 I1 m1 I0 m0
 again2 c =
-    let d = c.before.before.before.before in
-    (level_next _ _ _ _ _ _ _ c.following-n2.result _ (stands2 (up3 d.before.before)) (fails3 d) c.following-n2.ensures, keeps_more _ _ _ _ _ (at2 (up3 d.before.before)).loop-n2.invariant.1 (fails3 d).covers c.keep-in-loop-n2.ensures, d.loop-n3.invariant.1, d.loop-n3.invariant.2)
+    let d = c.before.before.before.before.before in
+    (level_next _ _ _ _ _ _ _ c.following-n2.result _ (stands2 (up3 d.before)) (fails3 d) c.following-n2.ensures, keeps_more _ _ _ _ _ (at2 (up3 d.before)).loop-n2.invariant.1 (fails3 d).covers c.keep-in-loop-n2.ensures, d.loop-n3.invariant.1, d.loop-n3.invariant.2)
 
 less2 : tie.Need-loop-n2-smaller I4 m4 I3 m3 I2 m2 I1 m1 I0 m0
 less2 c =
-    let d = c.before.before.before.before in
-    level_falls _ _ _ _ _ _ _ c.following-n2.result (stands2 (up3 d.before.before)) (fails3 d) c.following-n2.ensures
+    let d = c.before.before.before.before.before in
+    level_falls _ _ _ _ _ _ _ c.following-n2.result (stands2 (up3 d.before)) (fails3 d) c.following-n2.ensures
 
 again1 : tie.Need-loop-n1-preserved I4 m4 I3 m3 I2 m2 I1 m1 I0 m0
 again1 c =
-    let d = c.before.before.before.before in
-    (level_next _ _ _ _ _ _ _ c.following-n1.result _ (stands1 (up2 d.before.before)) (fails2 d) c.following-n1.ensures, keeps_more _ _ _ _ _ (at1 (up2 d.before.before)).loop-n1.invariant.1 (fails2 d).covers c.keep-in-loop-n1.ensures, d.loop-n2.invariant.1, d.loop-n2.invariant.2, d.loop-n2.invariant.3)
+    let d = c.before.before.before.before.before in
+    (level_next _ _ _ _ _ _ _ c.following-n1.result _ (stands1 (up2 d.before)) (fails2 d) c.following-n1.ensures, keeps_more _ _ _ _ _ (at1 (up2 d.before)).loop-n1.invariant.1 (fails2 d).covers c.keep-in-loop-n1.ensures, d.loop-n2.invariant.1, d.loop-n2.invariant.2, d.loop-n2.invariant.3)
 
 less1 : tie.Need-loop-n1-smaller I4 m4 I3 m3 I2 m2 I1 m1 I0 m0
 less1 c =
-    let d = c.before.before.before.before in
-    level_falls _ _ _ _ _ _ _ c.following-n1.result (stands1 (up2 d.before.before)) (fails2 d) c.following-n1.ensures
+    let d = c.before.before.before.before.before in
+    level_falls _ _ _ _ _ _ _ c.following-n1.result (stands1 (up2 d.before)) (fails2 d) c.following-n1.ensures
 
 again0 : tie.Need-search-preserved I4 m4 I3 m3 I2 m2 I1 m1 I0 m0
 again0 c =
-    let d = c.before.before.before.before in
-    (first_next _ _ _ _ _ _ _ c.following-n0.result (stands0 (up1 d.before.before)) (fails1 d) c.following-n0.ensures, keeps_more _ _ _ _ _ (at0 (up1 d.before.before)).search.invariant.1 (fails1 d).covers c.keep-in-search.ensures, d.loop-n1.invariant.1, d.loop-n1.invariant.2, d.loop-n1.invariant.3, d.loop-n1.invariant.4)
+    let d = c.before.before.before.before.before in
+    (first_next _ _ _ _ _ _ _ c.following-n0.result (stands0 (up1 d.before)) (fails1 d) c.following-n0.ensures, keeps_more _ _ _ _ _ (at0 (up1 d.before)).search.invariant.1 (fails1 d).covers c.keep-in-search.ensures, d.loop-n1.invariant.1, d.loop-n1.invariant.2, d.loop-n1.invariant.3, d.loop-n1.invariant.4)
 
 less0 : tie.Need-search-smaller I4 m4 I3 m3 I2 m2 I1 m1 I0 m0
 less0 c =
-    let d = c.before.before.before.before in
-    level_falls _ _ _ _ _ _ _ c.following-n0.result (stands0 (up1 d.before.before)) (fails1 d) c.following-n0.ensures
+    let d = c.before.before.before.before.before in
+    level_falls _ _ _ _ _ _ _ c.following-n0.result (stands0 (up1 d.before)) (fails1 d) c.following-n0.ensures
 
 -- ---- the labelled break, and the end of the first field's candidates
 
@@ -459,17 +459,17 @@ found_at c =
 
 none_at : tie.Need-returns-in_default I4 m4 I3 m3 I2 m2 I1 m1 I0 m0
 none_at c =
-    let p = c.before.before in
+    let p = c.before in
     let r = ranges0 p in
     told r _
     (none_right (B r) (fields_from (F0 r)) (start r).args.cover (start r).requires.1 (a0 p) p.first-a0.ensures (S0 r)
-    (level_end (B r) (A r) (F0 r) (Fs1 r) (R0 r) (S1 r) _ _ _ p.search.invariant.0 c.enum_told-1.given.1))
+    (level_end (B r) (A r) (F0 r) (Fs1 r) (R0 r) (S1 r) _ _ _ p.search.invariant.0 c.in_default.is))
 
 -- ---- where each loop begins
 
 starts0 : tie.Need-search-init I4 m4 I3 m3 I2 m2 I1 m1 I0 m0
 starts0 c =
-    let r = c.before.before.before in
+    let r = c.before.before.before.before in
     let a = In c.first-a0.result in (
       subst (Walked (box_in (B r) (A r) (fields_from (F0 r))) (R0 r) (S1 r) a a) (sym c.opening-n0.ensures)
           (walked_start (box_in (B r) (A r) (fields_from (F0 r))) (R0 r) (S1 r) 0 (λ k i. i) (inl refl)),
@@ -482,23 +482,23 @@ starts0 c =
 
 starts1 : tie.Need-loop-n1-init I4 m4 I3 m3 I2 m2 I1 m1 I0 m0
 starts1 c =
-    let r = ranges0 (at0 c.before.before.before) in
-    (level_start (B r) (A r) (F1 r) (Fs2 r) _ _ _ _ _ c.opening-n1.result (at0 c.before.before.before).search.invariant.1 c.recalled-k1.ensures c.opening-n1.ensures, (at0 c.before.before.before).search.invariant.2, (at0 c.before.before.before).search.invariant.3, (at0 c.before.before.before).search.invariant.4, (at0 c.before.before.before).search.invariant.5)
+    let r = ranges0 (at0 c.before.before.before.before) in
+    (level_start (B r) (A r) (F1 r) (Fs2 r) _ _ _ _ _ c.opening-n1.result (at0 c.before.before.before.before).search.invariant.1 c.recalled-k1.ensures c.opening-n1.ensures, (at0 c.before.before.before.before).search.invariant.2, (at0 c.before.before.before.before).search.invariant.3, (at0 c.before.before.before.before).search.invariant.4, (at0 c.before.before.before.before).search.invariant.5)
 
 starts2 : tie.Need-loop-n2-init I4 m4 I3 m3 I2 m2 I1 m1 I0 m0
 starts2 c =
-    let r = ranges1 (at1 c.before.before.before) in
-    (level_start (B r) (A r) (F2 r) (Fs3 r) _ _ _ _ _ c.opening-n2.result (at1 c.before.before.before).loop-n1.invariant.1 c.recalled-k2.ensures c.opening-n2.ensures, (at1 c.before.before.before).loop-n1.invariant.2, (at1 c.before.before.before).loop-n1.invariant.3, (at1 c.before.before.before).loop-n1.invariant.4)
+    let r = ranges1 (at1 c.before.before.before.before) in
+    (level_start (B r) (A r) (F2 r) (Fs3 r) _ _ _ _ _ c.opening-n2.result (at1 c.before.before.before.before).loop-n1.invariant.1 c.recalled-k2.ensures c.opening-n2.ensures, (at1 c.before.before.before.before).loop-n1.invariant.2, (at1 c.before.before.before.before).loop-n1.invariant.3, (at1 c.before.before.before.before).loop-n1.invariant.4)
 
 starts3 : tie.Need-loop-n3-init I4 m4 I3 m3 I2 m2 I1 m1 I0 m0
 starts3 c =
-    let r = ranges2 (at2 c.before.before.before) in
-    (level_start (B r) (A r) (F3 r) (Fs4 r) _ _ _ _ _ c.opening-n3.result (at2 c.before.before.before).loop-n2.invariant.1 c.recalled-k3.ensures c.opening-n3.ensures, (at2 c.before.before.before).loop-n2.invariant.2, (at2 c.before.before.before).loop-n2.invariant.3)
+    let r = ranges2 (at2 c.before.before.before.before) in
+    (level_start (B r) (A r) (F3 r) (Fs4 r) _ _ _ _ _ c.opening-n3.result (at2 c.before.before.before.before).loop-n2.invariant.1 c.recalled-k3.ensures c.opening-n3.ensures, (at2 c.before.before.before.before).loop-n2.invariant.2, (at2 c.before.before.before.before).loop-n2.invariant.3)
 
 starts4 : tie.Need-loop-n4-init I4 m4 I3 m3 I2 m2 I1 m1 I0 m0
 starts4 c =
-    let r = ranges3 (at3 c.before.before.before) in
-    level_start (B r) (A r) (F4 r) [] _ _ _ _ _ c.opening-n4.result (at3 c.before.before.before).loop-n3.invariant.1 c.recalled-k4.ensures c.opening-n4.ensures
+    let r = ranges3 (at3 c.before.before.before.before) in
+    level_start (B r) (A r) (F4 r) [] _ _ _ _ _ c.opening-n4.result (at3 c.before.before.before.before).loop-n3.invariant.1 c.recalled-k4.ensures c.opening-n4.ensures
 
 pub walk_spec : {M : Type 1} → statement M
 walk_spec =
@@ -508,39 +508,39 @@ walk_spec =
     (λ c κs. (c.requires.0, c.requires.2)) (λ c κs. (c.requires.0, omega arith)) (λ c κs. (c.requires.0, omega arith))
     (λ c κs. (c.requires.0, omega arith)) (λ c κs. (c.requires.0, omega arith))
     (λ c κs. (start c.before).requires.1.few) (λ c κs. search rules)
-    starts0 (λ c. c.in_default.keys1) (λ c. c.in_default.keys2)
-    (λ c κs. let p = c.before.before.before.before in (small0 (ranges0 p), numbered0 p)) (λ c κs. (at0 c.before).search.invariant.1.long) (λ c κs. search rules)
-    starts1 (λ c. c.in_default-n1.keys1) (λ c. c.in_default-n1.keys2)
-    (λ c κs. let p = c.before.before.before.before in (small1 (ranges1 p), numbered1 (up1 p))) (λ c κs. (at1 c.before).loop-n1.invariant.1.long) (λ c κs. search rules)
-    starts2 (λ c. c.in_default-n2.keys1) (λ c. c.in_default-n2.keys2)
-    (λ c κs. let p = c.before.before.before.before in (small2 (ranges2 p), numbered2 (up2 p))) (λ c κs. (at2 c.before).loop-n2.invariant.1.long) (λ c κs. search rules)
-    starts3 (λ c. c.in_default-n3.keys1) (λ c. c.in_default-n3.keys2) (λ c κs. search rules)
-    (λ c κs. let p = c.before.before.before.before.before.before in (small3 (ranges3 p), numbered3 (up3 p))) (λ c κs. (at3 c.before).loop-n3.invariant.1.long)
+    starts0 (λ c. search rules) (λ c. search rules)
+    (λ c κs. let p = c.before.before in (small0 (ranges0 p), numbered0 p)) (λ c κs. (at0 c.before).search.invariant.1.long) (λ c κs. search rules)
+    starts1 (λ c. search rules) (λ c. search rules)
+    (λ c κs. let p = c.before.before in (small1 (ranges1 p), numbered1 (up1 p))) (λ c κs. (at1 c.before).loop-n1.invariant.1.long) (λ c κs. search rules)
+    starts2 (λ c. search rules) (λ c. search rules)
+    (λ c κs. let p = c.before.before in (small2 (ranges2 p), numbered2 (up2 p))) (λ c κs. (at2 c.before).loop-n2.invariant.1.long) (λ c κs. search rules)
+    starts3 (λ c. search rules) (λ c. search rules) (λ c κs. search rules)
+    (λ c κs. let p = c.before.before.before.before in (small3 (ranges3 p), numbered3 (up3 p))) (λ c κs. (at3 c.before).loop-n3.invariant.1.long)
     (λ c κs. search rules)
-    starts4 (λ c. c.in_default-n4.keys1) (λ c. c.in_default-n4.keys2)
-    (λ c κs. let p = c.before.before.before.before in (small4 (ranges4 p), numbered4 (up4 p)))
+    starts4 (λ c. search rules) (λ c. search rules)
+    (λ c κs. let p = c.before.before in (small4 (ranges4 p), numbered4 (up4 p)))
     (λ c κs.
-    let h = c.before.before in
-    (small4 (ranges4 (at4 h)), λ k i. numbered4 (up4 (at4 h)) k ((fails5 c.before).part k i).0))
+    let h = c.before.before.before in
+    (small4 (ranges4 (at4 h)), λ k i. numbered4 (up4 (at4 h)) k ((fails5 c.before.before).part k i).0))
     less4 again4
-    (λ c κs. (at3 (up4 c.before.before.before)).loop-n3.invariant.1.long)
+    (λ c κs. (at3 (up4 c.before.before)).loop-n3.invariant.1.long)
     (λ c κs.
-    let d = c.before.before.before in
-    (small3 (ranges4 d.before.before), λ k i. numbered4 (up4 d.before.before) k ((fails4 d).part k i)))
+    let d = c.before.before.before.before in
+    (small3 (ranges4 d.before), λ k i. numbered4 (up4 d.before) k ((fails4 d).part k i)))
     less3 again3
-    (λ c κs. (at2 (up3 c.before.before.before)).loop-n2.invariant.1.long)
+    (λ c κs. (at2 (up3 c.before.before)).loop-n2.invariant.1.long)
     (λ c κs.
-    let d = c.before.before.before in
-    (small2 (ranges3 d.before.before), λ k i. numbered3 (up3 d.before.before) k ((fails3 d).part k i)))
+    let d = c.before.before.before.before in
+    (small2 (ranges3 d.before), λ k i. numbered3 (up3 d.before) k ((fails3 d).part k i)))
     less2 again2
-    (λ c κs. (at1 (up2 c.before.before.before)).loop-n1.invariant.1.long)
+    (λ c κs. (at1 (up2 c.before.before)).loop-n1.invariant.1.long)
     (λ c κs.
-    let d = c.before.before.before in
-    (small1 (ranges2 d.before.before), λ k i. numbered2 (up2 d.before.before) k ((fails2 d).part k i)))
+    let d = c.before.before.before.before in
+    (small1 (ranges2 d.before), λ k i. numbered2 (up2 d.before) k ((fails2 d).part k i)))
     less1 again1
-    (λ c κs. (at0 (up1 c.before.before.before)).search.invariant.1.long)
+    (λ c κs. (at0 (up1 c.before.before)).search.invariant.1.long)
     (λ c κs.
-    let d = c.before.before.before in
-    (small0 (ranges1 d.before.before), λ k i. numbered1 (up1 d.before.before) k ((fails1 d).part k i)))
+    let d = c.before.before.before.before in
+    (small0 (ranges1 d.before), λ k i. numbered1 (up1 d.before) k ((fails1 d).part k i)))
     less0 again0
     none_at stopped found_at)
