@@ -18,8 +18,8 @@ none_is b (found p) d = decides_fails b d (λ e. let z : ◌≡◌ {A = ℕ} 0 1
 
 returns : tie.Need-returns
 unfolding verdict_after
-returns c = rw (← c.before.cover.ensures.same) (none_is _ _ c.hidden.ensures)
+returns c = rw (← c.cover.ensures.same) (none_is _ _ c.hidden.ensures)
 
 pub is_dead_spec : {M : Type 1} → statement M
 is_dead_spec =
-    tie.close (tie.spec (λ c κs. search rules) (λ c κs. (omega (arith, c.before.requires.row), c.cover.ensures.numbers)) returns)
+    tie.close (tie.spec (λ c κs. search rules) (λ c κs. (omega (arith, c.requires.row), c.cover.ensures.numbers)) returns)

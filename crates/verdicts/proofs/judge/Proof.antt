@@ -7,8 +7,8 @@ use Rattle.verdicts.proofs.judge.Tie as tie
 
 returns : tie.Need-returns
 unfolding verdict_after
-returns c = rw (← c.before.cover.ensures.same) c.search.ensures
+returns c = rw (← c.cover.ensures.same) c.search.ensures
 
 pub judge_spec : {M : Type 1} → statement M
 judge_spec =
-    tie.close (tie.spec (λ c κs. search rules) (λ c κs. (omega (arith, c.before.requires.row), c.cover.ensures.numbers)) returns)
+    tie.close (tie.spec (λ c κs. search rules) (λ c κs. (omega (arith, c.requires.row), c.cover.ensures.numbers)) returns)
