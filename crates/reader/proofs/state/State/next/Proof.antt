@@ -1,7 +1,6 @@
 -- `State::next` meets its contract: a refusal stays, a line that is none is refused, and the first byte chooses what the rest is.
 -- Assumes nothing.
 use borrow.Author.Rules.{rules}
-use borrow.Author.Tests.{not-true, not-false}
 use native.Mathlib.Omega.{arith}
 use mathlib.Core.Path.{◌≡◌, refl, sym, ap, ◌∙◌}
 use mathlib.Core.Logic.{inl, inr}
