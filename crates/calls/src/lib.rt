@@ -1,4 +1,5 @@
 // What calls on a row have in common: the answer that Witness and Mesh give.
+#![tactic(auto)]
 
 ghost use Rattle.std.specs.Prelude.{◌≡◌};
 ghost use Rattle.base.specs.Answers.{returned};

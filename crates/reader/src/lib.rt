@@ -1,4 +1,6 @@
 // The reader of table texts: a first pass judges each line, and a second one takes the filters and rows of a text that is accepted.
+#![tactic(auto)]
+
 ghost use Rattle.std.specs.Prelude.{◌≡◌};
 ghost use Rattle.reader.specs.States.{parse};
 ghost use Rattle.reader.specs.Views.{Ready, Ends, Fillable, Filled, Parses};

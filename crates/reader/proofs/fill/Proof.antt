@@ -41,7 +41,7 @@ short c = search rules
 starts : tie.Need-loop-k-init I μ J ν
 starts c = λ a.
     let e = c.before.before.before in
-    let n = counted e.args.s e.well-formed.1.0 a.ready (all_read a.table) a.has in
+    let n = counted e.args.s e.well_formed.1.0 a.ready (all_read a.table) a.has in
     let f : c.lines_before.result ≡ length a.table.entities + length a.table.caps + 1 =
     omega (arith, c.lines_before.ensures, n.entities, n.caps) in
     record {
@@ -172,7 +172,7 @@ again_row c = λ a.
     let e = c.before.before.before.before.before in
     let r = c.read-r in
     let w = c.put_row.ensures in
-    rowed_more a.table a.keeps.well (i e) (some_row e a) r.result (eight_gateways r.result r.type-inv) (e.loop-i.invariant a)
+    rowed_more a.table a.keeps.well (i e) (some_row e a) r.result (eight_gateways r.result r.type_inv) (e.loop-i.invariant a)
     (first_row e a).next (r.ensures ∙ (its_part e a).says) w.0 w.1
 
 returns : tie.Need-returns I μ J ν

@@ -40,7 +40,7 @@ requires c κs =
 
 none : tie.Need-returns-then-end-text
 none c =
-    let e = c.before.before in
+    let e = c.before in
     let t : end e ≡ length (text e) = c.if-end-text.true in
     let x = lines_unended (text e) (start e) (end e) e.line_end-end.ensures (omega arith) in
     sym (first e ∙ ap (λ (ls : List (List ℕ)). get_or ls 0 []) x)

@@ -1,7 +1,6 @@
 -- `State::next` meets its contract: a refusal stays, a line that is none is refused, and the first byte chooses what the rest is.
 -- Assumes nothing.
 use borrow.Author.Rules.{rules}
-use borrow.Author.Tests.{not-true, not-false}
 use native.Mathlib.Omega.{arith}
 use mathlib.Core.Path.{◌≡◌, refl, sym, ap, ◌∙◌}
 use mathlib.Core.Logic.{inl, inr}
@@ -84,11 +83,11 @@ no_kind c =
     ∙ chosen u u.u8_at.result refl p))
   where
     other : (k : FrameName) → c.u8_at.result ≡ (describe k).byte → ⊥
-    other of_entity e = c.in_default.rest.0.0.0.0.1 e
-    other of_cap e = c.in_default.rest.0.0.0.1 e
-    other of_floor e = c.in_default.rest.0.0.1 e
-    other of_filter e = c.in_default.rest.0.1 e
-    other of_row e = c.in_default.rest.1 e
+    other of_entity e = let h : c.u8_at.result ≡ 1 = e in omega arith
+    other of_cap e = let h : c.u8_at.result ≡ 2 = e in omega arith
+    other of_floor e = let h : c.u8_at.result ≡ 3 = e in omega arith
+    other of_filter e = let h : c.u8_at.result ≡ 4 = e in omega arith
+    other of_row e = let h : c.u8_at.result ≡ 5 = e in omega arith
 
 pub next_spec : {M : Type 1} → statement M
 next_spec =
@@ -99,9 +98,9 @@ next_spec =
     (λ c. search rules)
     (λ c κs. omega (arith, long c.before))
     (λ c κs. search rules) (λ c κs. search rules) (λ c κs. search rules) (λ c κs. search rules) (λ c κs. search rules) (λ c κs. search rules)
-    (λ c. own c.before.before of_entity c.in_default.keys1 c.take_entity.ensures)
-    (λ c. own c.before.before of_cap c.in_default.keys2 c.take_cap.ensures)
-    (λ c. own c.before.before of_floor c.in_default.keys3 c.take_floor.ensures)
-    (λ c. own c.before.before of_filter c.in_default.keys4 c.take_filter.ensures)
-    (λ c. own c.before.before of_row c.in_default.keys5 c.take_row.ensures)
+    (λ c. own c.before.before of_entity c.in-1.is c.take_entity.ensures)
+    (λ c. own c.before.before of_cap c.in-2.is c.take_cap.ensures)
+    (λ c. own c.before.before of_floor c.in-3.is c.take_floor.ensures)
+    (λ c. own c.before.before of_filter c.in-4.is c.take_filter.ensures)
+    (λ c. own c.before.before of_row c.in-5.is c.take_row.ensures)
     no_kind)

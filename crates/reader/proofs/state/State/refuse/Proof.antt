@@ -13,7 +13,7 @@ returns c =
     record {
       ready = search (s.requires.0.unused, rules);
       reads = λ p h.
-          let n = counted s.args.self s.well-formed.0 s.requires.0 p h in
+          let n = counted s.args.self s.well_formed.0 s.requires.0 p h in
           record { by = refl; at = omega arith; some = s.requires.1 };
     }
 

@@ -31,7 +31,7 @@ module _ (s : tie.Start) where
   bs = bytes_of s.args.part.now
 
   counts : (p : Progress) → Has r p → Counted r p
-  counts = counted r s.good.0 s.requires.0
+  counts = counted r s.well_formed.0 s.requires.0
 
 -- the tests of its form and its place
 fit : (c : tie.After-misfit-n) → let s = c.before.before.before.before.before in Fit (r s) of_cap (bs s) c.misfit-n.result
@@ -58,7 +58,7 @@ value c =
     let i = c.before in
     let s = entry c in
     let t = r s in
-    let z = (state_sized t s.good.0).caps in
+    let z = (state_sized t s.well_formed.0).caps in
     let k = room c in
     by_value (fit i.before) i.if-n-ne0.false (record { same = λ p h. none_broken }) refl s.requires.1
     (search (s.requires.0.unused, rules))

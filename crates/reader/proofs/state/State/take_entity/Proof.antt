@@ -32,7 +32,7 @@ module _ (s : tie.Start) where
   bs = bytes_of s.args.part.now
 
   counts : (p : Progress) → Has r p → Counted r p
-  counts = counted r s.good.0 s.requires.0
+  counts = counted r s.well_formed.0 s.requires.0
 
 -- the tests of its form and its place
 fit : (c : tie.After-misfit-n) → let s = c.before.before.before.before in Fit (r s) of_entity (bs s) c.misfit-n.result
@@ -45,37 +45,37 @@ fit c =
 
 -- those of its content
 abbrev entry : tie.After-broken-m → tie.Start
-entry c = c.before.before.before.before.before.before.before.before.before
+entry c = c.before.before.before.before.before.before.before.before
 
 content : (c : tie.After-broken-m) → Content (r (entry c)) of_entity (bs (entry c)) c.broken-m.result
 content c =
     let s = entry c in
-    content_by (r s) of_entity (bs s) (λ l v. refusal (entity_content l v)) layers_of (layers_taken (r s) s.good.0 s.requires.0)
+    content_by (r s) of_entity (bs s) (λ l v. refusal (entity_content l v)) layers_of (layers_taken (r s) s.well_formed.0 s.requires.0)
     c.read-e.ensures c.broken-m.ensures (λ p. refl)
 
 broken : tie.Need-returns-then-m-ne0
 broken c =
     let b = c.before.before in
-    let i = b.before.before.before.before in
+    let i = b.before.before.before in
     by_content (fit i.before) i.if-n-ne0.false (content b) c.if-m-ne0.true c.refuse-then-m-ne0.ensures
 
 -- there is room for it
 room : (c : tie.Else-m-ne0) → (r (entry c.before)).entities < most_entities
 room c =
-    let i = c.before.before.before.before.before in
-    let s = i.before.before.before.before.before in
+    let i = c.before.before.before.before in
+    let s = entry c.before in
     let few = few_entities (progress_of (r s)) (entity_from (bs s)) (has_room (fit i.before) i.if-n-ne0.false) in
     omega (arith, (counts s (progress_of (r s)) (has_own (r s))).entities)
 
 value : tie.Need-returns
 value c =
     let b = c.before in
-    let i = b.before.before.before.before in
+    let i = b.before.before.before in
     let s = entry b in
     let t = r s in
     let n = t.entities in
     let e = entity_of b.read-e.result in
-    let z = state_sized t s.good.0 in
+    let z = state_sized t s.well_formed.0 in
     let k = room c in
     let past : (m : ℕ) → n + 1 ≤ m → parent_in (set t.parents n e.parent) m ≡ no_parent =
     λ m h. get_or-set_other t.parents n m e.parent no_parent (λ q. omega arith) ∙ s.requires.0.unused m (omega arith) in
@@ -93,5 +93,5 @@ take_entity_spec =
     (tie.spec (λ c κs. search rules) (λ c κs. search rules) (λ c κs. search rules) (λ c κs. search rules)
     (λ c. by_misfit (fit c.before.before) c.if-n-ne0.true c.refuse.ensures)
     (λ c κs. bytes_there c.args.part.now 3 (has_form (fit c.before) c.if-n-ne0.false))
-    (λ c κs. let s = c.before.before.before.before.before.before.before.before in layers_lent (r s) s.well-formed.0 s.requires.0)
+    (λ c κs. let s = c.before.before.before.before.before.before.before in layers_lent (r s) s.well_formed.0 s.requires.0)
     (λ c κs. search rules) broken (λ c. room c) (λ c. room c) (λ c. room c) (λ c. search rules) value)

@@ -23,7 +23,7 @@ module _ (s : tie.Start) where
   bs = bytes_of s.args.part.now
 
   counts : (p : Progress) → Has r p → Counted r p
-  counts = counted r s.good.0 s.requires.0
+  counts = counted r s.well_formed.0 s.requires.0
 
 -- the tests of its form and its place
 fit : (c : tie.After-misfit-n) → let s = c.before.before.before.before in Fit (r s) of_floor (bs s) c.misfit-n.result

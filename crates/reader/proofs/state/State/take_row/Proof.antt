@@ -25,7 +25,7 @@ module _ (s : tie.Start) where
   bs = bytes_of s.args.part.now
 
   counts : (p : Progress) → Has r p → Counted r p
-  counts = counted r s.good.0 s.requires.0
+  counts = counted r s.well_formed.0 s.requires.0
 
 -- the tests of its form and its place
 fit : (c : tie.After-misfit-n) → let s = c.before.before.before.before in Fit (r s) of_row (bs s) c.misfit-n.result
@@ -38,24 +38,24 @@ fit c =
 
 -- those of its content
 abbrev entry : tie.After-broken-m → tie.Start
-entry c = c.before.before.before.before.before.before.before.before.before
+entry c = c.before.before.before.before.before.before.before.before
 
 content : (c : tie.After-broken-m) → Content (r (entry c)) of_row (bs (entry c)) c.broken-m.result
 content c =
     let s = entry c in
-    content_by (r s) of_row (bs s) (λ l v. refusal (row_content l v)) parents_of (parents_taken (r s) s.good.0 s.requires.0)
+    content_by (r s) of_row (bs s) (λ l v. refusal (row_content l v)) parents_of (parents_taken (r s) s.well_formed.0 s.requires.0)
     c.read.ensures c.broken-m.ensures (λ p. refl)
 
 broken : tie.Need-returns-then-m-ne0
 broken c =
     let b = c.before.before in
-    let i = b.before.before.before.before in
+    let i = b.before.before.before in
     by_content (fit i.before) i.if-n-ne0.false (content b) c.if-m-ne0.true c.refuse-then-m-ne0.ensures
 
 value : tie.Need-returns
 value c =
     let b = c.before in
-    let i = b.before.before.before.before in
+    let i = b.before.before.before in
     let s = entry b in
     let few = few_rows (progress_of (r s)) (has_room (fit i.before) i.if-n-ne0.false) in
     let n = counts s (progress_of (r s)) (has_own (r s)) in
@@ -68,6 +68,6 @@ take_row_spec =
     tie.close
     (tie.spec (λ c κs. search rules) (λ c κs. search rules) (λ c κs. search rules) (λ c κs. search rules)
     (λ c. by_misfit (fit c.before.before) c.if-n-ne0.true c.refuse.ensures)
-    (λ c κs. (has_form (fit c.before.before.before) c.if-n-ne0.false, search rules))
-    (λ c κs. let s = c.before.before.before.before.before.before.before.before in parents_lent (r s) s.well-formed.0 s.requires.0)
+    (λ c κs. (has_form (fit c.before.before) c.if-n-ne0.false, search rules))
+    (λ c κs. let s = c.before.before.before.before.before.before.before in parents_lent (r s) s.well_formed.0 s.requires.0)
     (λ c κs. search rules) broken (λ c. search rules) value)
