@@ -75,7 +75,7 @@ module _ (t : Table) where
   pub record Superfluous (i : ℕ) : Type 0 where
     pub rider : ℕ
     pub rides : Rides rider i
-    pub at_least_lem : (j : ℕ) → Rides j i → AtLeast (row_at t j).coefficients (row_at t i).coefficients
+    pub at_least : (j : ℕ) → Rides j i → AtLeast (row_at t j).coefficients (row_at t i).coefficients
 
   -- Filter k excepts packets of row i from filter m: an "earlier passing filter of that root overlapping S".
   pub record Excepts (k m i : ℕ) : Type 0 where

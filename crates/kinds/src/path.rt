@@ -13,7 +13,7 @@ use policy::table::Bounds;
 use relations::selector;
 
 // The roots that a chain has visited, the last first: the first `count` of the array.
-#[derive(Drop)]
+#[derive(Clone, Copy)]
 pub struct Visited {
     pub at: Gateways,
     pub count: usize,

@@ -14,7 +14,7 @@ use relations::entity;
 pub type Roots = [u8; 2 * ROWS];
 
 // A row, root(s) and root(d).
-#[derive(Drop)]
+#[derive(Clone, Copy)]
 pub struct Placed {
     pub row: Row,
     pub from: u8,

@@ -62,7 +62,7 @@ module _ (t : Table) (w : Wellformed t) where
   unfolding superfluous
   superfluous_decides i =
       decides_as
-      (λ e. record { rider = e.0.0; rides = e.0.2; at_least_lem = every e.1 })
+      (λ e. record { rider = e.0.0; rides = e.0.2; at_least = every e.1 })
       (λ e. ((e.rider, e.rides.row, e.rides), λ s. s.2.1 (e.at_least s.0 s.2.0)))
       (decides_and _ _
       (some_decides (length t.rows) (λ j. not (eqb j i) && rides (placed_at t j) (placed_at t i)) (λ j h. rides_decides j i h))

@@ -200,7 +200,7 @@ module _ (t : Table) (w : Wellformed t) where
         inadequate = λ i r. some_smaller _ _ ((w.row i r).coefficients.three ∙ sym w.floor.three);
         superfluous = λ i r. (
           λ s. ((s.rider, s.rides), λ j q. (protects_enough t w j i q.row r).0 (s.at_least j q)),
-          λ h. record { rider = h.0.0; rides = h.0.1; at_least_lem = λ j q. (protects_enough t w j i q.row r).1 (h.1 j q) },
+          λ h. record { rider = h.0.0; rides = h.0.1; at_least = λ j q. (protects_enough t w j i q.row r).1 (h.1 j q) },
         );
         rides = λ i j.
             let order = in_order (source_root t i) (destination_root t i) (row_at t j).gateways in (

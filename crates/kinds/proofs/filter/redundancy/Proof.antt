@@ -19,16 +19,16 @@ holds true true c h = refl
 holds true false c h = absurd (true≢false h)
 holds false b c h = absurd (true≢false h)
 
-no : tie.Need-returns
+no : tie.Need-returns-then-f-g
 unfolding filter_redundancy
-no c = let a = c.before.before.before.args in fails (eqb a.f.action dropping) (eqb a.g.action dropping) _ c.if1.true
+no c = let a = c.args in fails (eqb a.f.action dropping) (eqb a.g.action dropping) _ c.if-f-g.true
 
-all : tie.Need-returns-2
+all : tie.Need-returns
 unfolding filter_redundancy
 all c =
     let i = c.before.before.before in
-    let a = i.before.before.before.args in
-    rw (← c.contains.ensures) (holds (eqb a.f.action dropping) (eqb a.g.action dropping) _ i.if1.false)
+    let a = i.args in
+    rw (← c.contains.ensures) (holds (eqb a.f.action dropping) (eqb a.g.action dropping) _ i.if-f-g.false)
 
 pub redundancy_spec : {M : Type 1} → statement M
 redundancy_spec = tie.close (tie.spec no (λ c κs. search rules) all)

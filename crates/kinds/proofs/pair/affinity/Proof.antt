@@ -6,7 +6,7 @@ use Rattle.kinds.proofs.pair.affinity.Tie as tie
 returns : tie.Need-returns
 returns c =
     let b = c.before.before in
-    rw (b.inclusion_back_lem.ensures, b.before.inclusion.ensures)
+    rw (b.inclusion_back.ensures, b.inclusion.ensures)
 
 pub affinity_spec : {M : Type 1} → statement M
 affinity_spec = tie.close (tie.spec (λ c κs. search rules) (λ c κs. search rules) returns)

@@ -6,7 +6,7 @@ use Rattle.kinds.proofs.pair.correlation.Tie as tie
 returns : tie.Need-returns
 returns c =
     let e = c.before.before in
-    rw (e.exception.ensures, e.before.redundancy.ensures, e.before.before.shadowing.ensures)
+    rw (e.exception.ensures, e.redundancy.ensures, e.shadowing.ensures)
 
 pub correlation_spec : {M : Type 1} → statement M
 correlation_spec =

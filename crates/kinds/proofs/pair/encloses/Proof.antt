@@ -5,16 +5,16 @@ use Rattle.kinds.specs.Tests.{encloses}
 use Rattle.kinds.proofs.pair.encloses.Statement.{statement}
 use Rattle.kinds.proofs.pair.encloses.Tie as tie
 
-inside : tie.Need-returns
+inside : tie.Need-returns-then-contains
 unfolding encloses
 inside c =
     let a = c.before in
     let i = a.before in
-    rw (sym i.before.contains.ensures ∙ i.if1.true, a.at-or-above.ensures, c.at-or-above2.ensures)
+    rw (sym i.contains.ensures ∙ i.if-contains.true, a.at_or_above.ensures, c.at_or_above-then-contains.ensures)
 
-outside : tie.Need-returns-2
+outside : tie.Need-returns
 unfolding encloses
-outside c = rw (sym c.before.contains.ensures ∙ c.if1.false)
+outside c = rw (sym c.contains.ensures ∙ c.if-contains.false)
 
 pub encloses_spec : {M : Type 1} → statement M
 encloses_spec =

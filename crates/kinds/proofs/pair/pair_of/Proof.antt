@@ -27,22 +27,22 @@ returns c =
     alike _ _
     refl
     refl
-    (rw (same_group_tests, gateways.same-gateways.ensures))
-    gateways.same-gateways.ensures
+    (rw (same_group_tests, gateways.same_gateways-gateways.ensures))
+    gateways.same_gateways-gateways.ensures
     refl
     refl
     refl
     dominates.dominates.ensures
-    dominated.dominates2.ensures
+    dominated.dominates-2.ensures
     encloses.encloses.ensures
-    enclosed.encloses2.ensures
-    same.same_traffic_lem.ensures
+    enclosed.encloses-2.ensures
+    same.same_traffic.ensures
     stronger.at_least.ensures
-    weaker.at-least2.ensures
+    weaker.at_least-2.ensures
     (rw (s.requires.1.overlap, and-true (eqb s.args.p.to s.args.q.to)))
     (rw (s.requires.1.overlap, and-true (not (eqb s.args.i s.args.j))))
-    inside.is-gateway.ensures
-    inside2.is-gateway2.ensures
+    inside.is_gateway.ensures
+    inside2.is_gateway-2.ensures
     refl
     refl
     refl

@@ -6,7 +6,7 @@ use Rattle.kinds.proofs.path.alternative_path.Tie as tie
 
 returns : tie.Need-returns
 unfolding alternative_path
-returns c = rw (← c.before.selector_at.ensures) c.chains.ensures
+returns c = rw (← c.selector_at.ensures) c.chains.ensures
 
 pub alternative_path_spec : {M : Type 1} → statement M
 alternative_path_spec =

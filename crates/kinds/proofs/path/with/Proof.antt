@@ -14,13 +14,13 @@ use Rattle.kinds.proofs.path.with.Tie as tie
 
 returns : tie.Need-returns
 returns c =
-    let v = c.before.before.args.v in
+    let v = c.args.v in
     let e : length v.at ≡ most_gateways = search rules in
     record {
       roots =
           rw (add-one v.count)
-          (ap (λ (l : List ℕ). c.before.before.args.x ∷ l)
-          (ap (take v.count) (tabulate_take v.at (most_gateways - 1) (omega arith)) ∙ take-take v.count (most_gateways - 1) v.at (let h = c.before.before.requires in omega arith)));
+          (ap (λ (l : List ℕ). c.args.x ∷ l)
+          (ap (take v.count) (tabulate_take v.at (most_gateways - 1) (omega arith)) ∙ take-take v.count (most_gateways - 1) v.at (let h = c.requires in omega arith)));
       count = search rules;
     }
 

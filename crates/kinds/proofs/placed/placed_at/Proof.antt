@@ -4,7 +4,7 @@ use Rattle.kinds.proofs.placed.placed_at.Statement.{statement}
 use Rattle.kinds.proofs.placed.placed_at.Tie as tie
 
 returns : tie.Need-returns
-returns c = rw c.before.before.row_at.ensures
+returns c = rw c.row_at.ensures
 
 pub placed_at_spec : {M : Type 1} → statement M
 placed_at_spec =

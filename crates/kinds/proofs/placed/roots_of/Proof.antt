@@ -12,31 +12,31 @@ use Rattle.kinds.proofs.Laws.Placed.{rooted_start, rooted_next}
 use Rattle.kinds.proofs.placed.roots_of.Statement.{statement}
 use Rattle.kinds.proofs.placed.roots_of.Tie as tie
 
-abbrev I : tie.invariant-loop
+abbrev I : tie.invariant-loop-i
 I parents heads bounds rows roots₀ i₀ roots i = (i ≤ rows) × Rooted parents heads bounds i roots
 
-abbrev μ : tie.decreases-loop
+abbrev μ : tie.decreases-loop-i
 μ parents heads bounds rows roots₀ i₀ roots i = rows - i
 
 -- the row that was read, whose ends are entities' numbers
-module _ (c : tie.After-row-at I μ) where
+module _ (c : tie.After-row_at-r I μ) where
   abbrev s : tie.Start I μ
   s = c.before.before.before
 
-  read : row_of c.row_at.result ≡ row_in s.args.heads.now s.args.bounds.now c.before.before.loop.i
-  read = c.row_at.ensures
+  read : row_of c.row_at-r.result ≡ row_in s.args.heads.now s.args.bounds.now c.loop-i.i
+  read = c.row_at-r.ensures
 
-again : tie.Need-loop-preserved I μ
+again : tie.Need-loop-i-preserved I μ
 again c =
     let r = c.before.before in
     let l = r.before.before in
-    let h = r.before.loop-test.true in
+    let h = r.loop-i-test.true in
     let n = (s r).requires.1 in
     let up = parent_in (s r).args.parents.now in (
       omega arith,
-      rooted_next _ _ _ l.loop.i (omega arith) l.loop.invariant.1
-          (c.before.root.ensures ∙ ap (λ (q : Row). root_of up q.source) (read r))
-          (c.root2.ensures ∙ ap (λ (q : Row). root_of up q.destination) (read r)),
+      rooted_next _ _ _ l.loop-i.i (omega arith) l.loop-i.invariant.1
+          (c.root.ensures ∙ ap (λ (q : Row). root_of up q.source) (read r))
+          (c.root-in-loop-i.ensures ∙ ap (λ (q : Row). root_of up q.destination) (read r)),
     )
 
 pub roots_of_spec : {M : Type 1} → statement M
@@ -45,8 +45,8 @@ roots_of_spec =
     (tie.spec I μ
     (λ c. (omega arith, rooted_start _ _ _))
     (λ c κs. search rules)
-    (λ c κs. let e = ap (λ (q : Row). q.source) (read c) in let h = (s c).requires.2.source _ c.before.loop-test.true in ((s c).requires.0, omega arith))
+    (λ c κs. let e = ap (λ (q : Row). q.source) (read c) in let h = (s c).requires.2.source _ c.loop-i-test.true in ((s c).requires.0, omega arith))
     (λ c. search rules) (λ c. search rules)
-    (λ c κs. let r = c.before in let e = ap (λ (q : Row). q.destination) (read r) in let h = (s r).requires.2.destination _ r.before.loop-test.true in ((s r).requires.0, omega arith))
+    (λ c κs. let r = c.before in let e = ap (λ (q : Row). q.destination) (read r) in let h = (s r).requires.2.destination _ r.loop-i-test.true in ((s r).requires.0, omega arith))
     (λ c. search rules) (λ c. search rules) (λ c. search rules) (λ c. search rules) (λ c. search rules) again
-    (λ c. let l = c.before.loop in rw (le_antisymm l.invariant.0 c.loop-test.false) at l.invariant.1))
+    (λ c. let l = c.loop-i in rw (le_antisymm l.invariant.0 c.loop-i-test.false) at l.invariant.1))

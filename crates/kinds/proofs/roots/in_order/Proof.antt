@@ -15,38 +15,38 @@ use Rattle.kinds.proofs.Laws.Roots.{in_order_nil, in_order_more, in_order_here}
 use Rattle.kinds.proofs.roots.in_order.Statement.{statement}
 use Rattle.kinds.proofs.roots.in_order.Tie as tie
 
-abbrev I : tie.invariant-loop
+abbrev I : tie.invariant-loop-k
 I a b n at k₀ k = in_order a b (take n at) ≡ in_order a b (drop k (take n at))
 
-abbrev μ : tie.decreases-loop
+abbrev μ : tie.decreases-loop-k
 μ a b n at k₀ k = n - k
 
 -- there is room for n roots
-room : (s : tie.Start I μ) → s.args.n ≤ length s.args.t3
-room s = let e : length s.args.t3 ≡ most_gateways = search rules in omega arith
+room : (s : tie.Start I μ) → s.args.n ≤ length s.args.at
+room s = let e : length s.args.at ≡ most_gateways = search rules in omega arith
 
-found : tie.Need-returns I μ
+found : tie.Need-returns-then-at-k I μ
 found c =
     let i = c.before in
     let l = i.before.before in
-    let s = l.before.args in
-    c.among-from.ensures
-    ∙ sym (l.loop.invariant ∙ in_order_here s.a s.b s.t3 s.n (room l.before) l.loop.k i.before.loop-test.true i.if1.true)
+    let s = l.args in
+    c.among_from.ensures
+    ∙ sym (l.loop-k.invariant ∙ in_order_here s.a s.b s.at s.n (room l.before) l.loop-k.k i.loop-k-test.true i.if-at-k.true)
 
-next : tie.Need-loop-preserved I μ
+next : tie.Need-loop-k-preserved I μ
 next c =
     let l = c.before.before in
-    let a = l.before.args.a in
-    let b = l.before.args.b in
-    scan_next (in_order a b) (λ x xs. eqb a x && among b xs) (in_order_nil a b) (in_order_more a b) _ _ (room l.before) _ l.loop.k l.loop.invariant c.before.loop-test.true
-    (ap (λ (t : Bool). t && among b (drop (l.loop.k + 1) (take l.before.args.n l.before.args.t3))) (ne_eqb _ _ (λ e. c.if1.false (sym e))))
+    let a = l.args.a in
+    let b = l.args.b in
+    scan_next (in_order a b) (λ x xs. eqb a x && among b xs) (in_order_nil a b) (in_order_more a b) _ _ (room l.before) _ l.loop-k.k l.loop-k.invariant c.loop-k-test.true
+    (ap (λ (t : Bool). t && among b (drop (l.loop-k.k + 1) (take l.args.n l.args.at))) (ne_eqb _ _ (λ e. c.if-at-k.false (sym e))))
 
-end : tie.Need-returns-2 I μ
+end : tie.Need-returns I μ
 end c =
     let l = c.before in
-    let a = l.before.args.a in
-    let b = l.before.args.b in
-    scan_end (in_order a b) (λ x xs. eqb a x && among b xs) (in_order_nil a b) (in_order_more a b) _ _ (room l.before) _ l.loop.k l.loop.invariant c.loop-test.false
+    let a = l.args.a in
+    let b = l.args.b in
+    scan_end (in_order a b) (λ x xs. eqb a x && among b xs) (in_order_nil a b) (in_order_more a b) _ _ (room l.before) _ l.loop-k.k l.loop-k.invariant c.loop-k-test.false
 
 pub in_order_spec : {M : Type 1} → statement M
 in_order_spec =

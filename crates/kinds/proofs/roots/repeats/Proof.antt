@@ -12,32 +12,32 @@ use Rattle.kinds.proofs.Laws.Roots.{twice_nil, twice_more}
 use Rattle.kinds.proofs.roots.repeats.Statement.{statement}
 use Rattle.kinds.proofs.roots.repeats.Tie as tie
 
-abbrev I : tie.invariant-loop
+abbrev I : tie.invariant-loop-k
 I n at k₀ k = twice (take n at) ≡ twice (drop k (take n at))
 
-abbrev μ : tie.decreases-loop
+abbrev μ : tie.decreases-loop-k
 μ n at k₀ k = n - k
 
 -- there is room for n roots
-room : (s : tie.Start I μ) → s.args.n ≤ length s.args.t1
-room s = let e : length s.args.t1 ≡ most_gateways = search rules in omega arith
+room : (s : tie.Start I μ) → s.args.n ≤ length s.args.at
+room s = let e : length s.args.at ≡ most_gateways = search rules in omega arith
 
-found : tie.Need-returns I μ
+found : tie.Need-returns-then-among_from I μ
 found c =
     let a = c.before in
     let l = a.before.before in
-    scan_found twice among twice_nil twice_more _ _ (room l.before) _ l.loop.k l.loop.invariant a.before.loop-test.true (sym a.among-from.ensures ∙ c.if1.true)
+    scan_found twice among twice_nil twice_more _ _ (room l.before) _ l.loop-k.k l.loop-k.invariant a.loop-k-test.true (sym a.among_from.ensures ∙ c.if-among_from.true)
 
-next : tie.Need-loop-preserved I μ
+next : tie.Need-loop-k-preserved I μ
 next c =
     let a = c.before in
     let l = a.before.before in
-    scan_next twice among twice_nil twice_more _ _ (room l.before) _ l.loop.k l.loop.invariant a.before.loop-test.true (sym a.among-from.ensures ∙ c.if1.false)
+    scan_next twice among twice_nil twice_more _ _ (room l.before) _ l.loop-k.k l.loop-k.invariant a.loop-k-test.true (sym a.among_from.ensures ∙ c.if-among_from.false)
 
-end : tie.Need-returns-2 I μ
+end : tie.Need-returns I μ
 end c =
     let l = c.before in
-    scan_end twice among twice_nil twice_more _ _ (room l.before) _ l.loop.k l.loop.invariant c.loop-test.false
+    scan_end twice among twice_nil twice_more _ _ (room l.before) _ l.loop-k.k l.loop-k.invariant c.loop-k-test.false
 
 pub repeats_spec : {M : Type 1} → statement M
 repeats_spec =

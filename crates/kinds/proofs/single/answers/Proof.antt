@@ -6,32 +6,32 @@ use Rattle.kinds.specs.Tests.{answers}
 use Rattle.kinds.proofs.single.answers.Statement.{statement}
 use Rattle.kinds.proofs.single.answers.Tie as tie
 
-source : tie.Need-returns
+source : tie.Need-returns-then-q-r
 unfolding answers
 source c =
-    let a = c.before.before.before.args in
-    let h : a.q.source ≡ a.r.destination → ⊥ = c.if1.true in
+    let a = c.args in
+    let h : a.q.source ≡ a.r.destination → ⊥ = c.if-q-r.true in
     rw (ne_eqb _ _ h)
 
-destination : tie.Need-returns-2
+destination : tie.Need-returns-then-q-r-2
 unfolding answers
 destination c =
     let s = c.before.before.before in
-    let a = s.before.before.before.args in
-    let h : a.q.source ≡ a.r.destination = s.if1.false in
-    let k : a.q.destination ≡ a.r.source → ⊥ = c.if2.true in
+    let a = s.args in
+    let h : a.q.source ≡ a.r.destination = s.if-q-r.false in
+    let k : a.q.destination ≡ a.r.source → ⊥ = c.if-q-r-2.true in
     rw (eq-eqb _ _ h, ne_eqb _ _ k)
 
-all : tie.Need-returns-3
+all : tie.Need-returns
 unfolding answers
 all c =
     let l = c.before.before.before in
     rw (
-      eq-eqb _ _ l.before.before.before.if1.false,
-      eq-eqb _ _ l.if2.false,
-      ← c.before.before.equals.ensures,
-      ← c.before.exchanged.ensures,
-      c.equals2.ensures,
+      eq-eqb _ _ l.if-q-r.false,
+      eq-eqb _ _ l.if-q-r-2.false,
+      ← c.equals.ensures,
+      ← c.exchanged.ensures,
+      c.equals-2.ensures,
     )
 
 pub answers_spec : {M : Type 1} → statement M

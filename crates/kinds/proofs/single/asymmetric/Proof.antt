@@ -16,53 +16,53 @@ use Rattle.kinds.proofs.single.asymmetric.Tie as tie
 abbrev test : (heads bounds : List ℕ) → ℕ → ℕ → Bool
 test heads bounds i j = answers (row_in heads bounds j) (row_in heads bounds i)
 
-abbrev I : tie.invariant-loop
+abbrev I : tie.invariant-loop-j
 I heads bounds rows i r j₀ j = (j ≤ rows) × (some j (test heads bounds i) ≡ false)
 
-abbrev μ : tie.decreases-loop
+abbrev μ : tie.decreases-loop-j
 μ heads bounds rows i r j₀ j = rows - j
 
-starts : tie.Need-loop-init I μ
+starts : tie.Need-loop-j-init I μ
 starts c =
-    let a = c.before.args in (search rules, some_start (test a.heads.now a.bounds.now a.i))
+    let a = c.args in (search rules, some_start (test a.heads.now a.bounds.now a.i))
 
 -- the test that was made is that of rows j and i
 module _ (c : tie.After-answers I μ) where
   abbrev asked : tie.Start I μ
   asked = c.before.before.before.before.before
 
-  abbrev loop : tie.At-loop I μ
+  abbrev loop : tie.At-loop-j I μ
   loop = c.before.before.before
 
   abbrev tests : ℕ → Bool
   tests = test asked.args.heads.now asked.args.bounds.now asked.args.i
 
-  tested : tests loop.loop.j ≡ c.answers.result
+  tested : tests loop.loop-j.j ≡ c.answers.result
   tested =
       let h = asked.args.heads.now in
       let b = asked.args.bounds.now in
       sym
       (c.answers.ensures
-      ∙ ap (λ (x : Row). answers x (row_of loop.before.row_at.result)) c.before.row-at2.ensures
-      ∙ ap (λ (x : Row). answers (row_in h b loop.loop.j) x) loop.before.row_at.ensures)
+      ∙ ap (λ (x : Row). answers x (row_of loop.row_at-r.result)) c.row_at.ensures
+      ∙ ap (λ (x : Row). answers (row_in h b loop.loop-j.j) x) loop.row_at-r.ensures)
 
-answered : tie.Need-returns I μ
+answered : tie.Need-returns-then-answers I μ
 unfolding asymmetric
 answered c =
     let m = c.before in
-    rw (some_found (tests m) (asked m).args.rows (loop m).loop.j m.before.before.loop-test.true (tested m ∙ c.if1.true))
+    rw (some_found (tests m) (asked m).args.rows (loop m).loop-j.j m.loop-j-test.true (tested m ∙ c.if-answers.true))
 
-next : tie.Need-loop-preserved I μ
+next : tie.Need-loop-j-preserved I μ
 next c =
     let m = c.before in
-    (search rules, some_none (tests m) (loop m).loop.j (loop m).loop.invariant.1 (tested m ∙ c.if1.false))
+    (search rules, some_none (tests m) (loop m).loop-j.j (loop m).loop-j.invariant.1 (tested m ∙ c.if-answers.false))
 
-none : tie.Need-returns-2 I μ
+none : tie.Need-returns I μ
 unfolding asymmetric
 none c =
-    let l = c.before.loop in
-    let a = c.before.before.before.args in
-    rw (some_end (test a.heads.now a.bounds.now a.i) a.rows l.j l.invariant.0 c.loop-test.false l.invariant.1)
+    let l = c.loop-j in
+    let a = c.args in
+    rw (some_end (test a.heads.now a.bounds.now a.i) a.rows l.j l.invariant.0 c.loop-j-test.false l.invariant.1)
 
 pub asymmetric_spec : {M : Type 1} → statement M
 asymmetric_spec =

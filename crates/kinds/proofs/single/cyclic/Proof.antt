@@ -12,11 +12,11 @@ returns : tie.Need-returns
 unfolding cyclic
 returns c =
     let g = c.before.before.before in
-    let p = g.before.before.before.before.args.p in
+    let p = g.args.p in
     let gateways = take p.row.count p.row.gateways in
     let repeated : c.repeats.result ≡ twice gateways =
-    rw (← take_own p.row.count p.row.gateways, ← c.before.gateway-count.ensures.0) c.repeats.ensures in
-    rw (twice_between p.from gateways p.to, g.is-gateway.ensures, c.before.before.is-gateway2.ensures, repeated)
+    rw (← take_own p.row.count p.row.gateways, ← c.gateway_count.ensures.0) c.repeats.ensures in
+    rw (twice_between p.from gateways p.to, g.is_gateway.ensures, c.is_gateway-2.ensures, repeated)
 
 pub cyclic_spec : {M : Type 1} → statement M
 cyclic_spec =

@@ -10,11 +10,11 @@ use Rattle.kinds.specs.Tests.{excepts, excepted}
 use Rattle.kinds.proofs.single.excepted.Statement.{statement}
 use Rattle.kinds.proofs.single.excepted.Tie as tie
 
-abbrev I : tie.invariant-loop
+abbrev I : tie.invariant-loop-k
 I filter_roots filter_actions bounds count root r k₀ k =
     (k ≤ count) × (some k (λ j. excepts (row_of r) root (filter_in filter_roots filter_actions bounds j)) ≡ false)
 
-abbrev μ : tie.decreases-loop
+abbrev μ : tie.decreases-loop-k
 μ filter_roots filter_actions bounds count root r k₀ k = count - k
 
 -- whether a filter excepts packets of the row
@@ -22,29 +22,29 @@ abbrev tests : tie.Start I μ → ℕ → Bool
 tests s k = excepts (row_of s.args.r) s.args.root (filter_in s.args.filter_roots.now s.args.filter_actions.now s.args.bounds.now k)
 
 -- the test that was made is that of filter k
-tested : (c : tie.After-excepts I μ) → tests c.before.before.before.before c.before.before.before.loop.k ≡ c.excepts.result
+tested : (c : tie.After-excepts I μ) → tests c.before.before.before.before c.loop-k.k ≡ c.excepts.result
 tested c =
-    let a = c.before.before.before.before.args in
-    sym (c.excepts.ensures ∙ ap (excepts (row_of a.r) a.root) c.before.filter-at.ensures)
+    let a = c.args in
+    sym (c.excepts.ensures ∙ ap (excepts (row_of a.r) a.root) c.filter_at.ensures)
 
-found : tie.Need-returns I μ
+found : tie.Need-returns-then-excepts I μ
 unfolding excepted
 found c =
     let f = c.before in
     let l = f.before.before.before in
-    sym (some_found (tests l.before) _ l.loop.k f.before.before.loop-test.true (tested f ∙ c.if1.true))
+    sym (some_found (tests l.before) _ l.loop-k.k f.loop-k-test.true (tested f ∙ c.if-excepts.true))
 
-next : tie.Need-loop-preserved I μ
+next : tie.Need-loop-k-preserved I μ
 next c =
     let f = c.before in
     let l = f.before.before.before in
-    (search rules, some_none (tests l.before) l.loop.k l.loop.invariant.1 (tested f ∙ c.if1.false))
+    (search rules, some_none (tests l.before) l.loop-k.k l.loop-k.invariant.1 (tested f ∙ c.if-excepts.false))
 
-end : tie.Need-returns-2 I μ
+end : tie.Need-returns I μ
 unfolding excepted
 end c =
-    let l = c.before.loop in
-    sym (some_end (tests c.before.before) _ l.k l.invariant.0 c.loop-test.false l.invariant.1)
+    let l = c.loop-k in
+    sym (some_end (tests c.before.before) _ l.k l.invariant.0 c.loop-k-test.false l.invariant.1)
 
 pub excepted_spec : {M : Type 1} → statement M
 excepted_spec =

@@ -18,22 +18,22 @@ module _ (c : tie.After-filters) where
   f = filter_in s.args.filter_roots.now s.args.filter_actions.now s.args.bounds.now s.args.k
 
   tested : filters (row_of s.args.r) f ≡ c.filters.result
-  tested = sym (c.filters.ensures ∙ ap (filters (row_of s.args.r)) c.before.filter-at.ensures)
+  tested = sym (c.filters.ensures ∙ ap (filters (row_of s.args.r)) c.filter_at-f.ensures)
 
-no : tie.Need-returns
+no : tie.Need-returns-then-not-filters
 unfolding filtered_by
 no c =
-    let none : c.before.filters.result ≡ false = not-true _ c.if1.true in
+    let none : c.filters.result ≡ false = c.if-not-filters.true in
     rw (tested c.before, none)
 
-returns : tie.Need-returns-2
+returns : tie.Need-returns
 unfolding filtered_by
 returns c =
     let i = c.before in
     let a = (s i.before).args in
-    let first : i.before.filters.result ≡ true = not-false _ i.if1.false in
+    let first : i.filters.result ≡ true = i.if-not-filters.false in
     rw (tested i.before, first)
-    (ap not (c.excepted.ensures ∙ ap (λ (g : Filter). excepted (filter_in a.filter_roots.now a.filter_actions.now a.bounds.now) a.k g.root (row_of a.r)) i.before.before.filter-at.ensures))
+    (ap not (c.excepted.ensures ∙ ap (λ (g : Filter). excepted (filter_in a.filter_roots.now a.filter_actions.now a.bounds.now) a.k g.root (row_of a.r)) i.filter_at-f.ensures))
 
 pub filtered_by_spec : {M : Type 1} → statement M
 filtered_by_spec = tie.close (tie.spec (λ c κs. search rules) (λ c κs. search rules) no (λ c κs. search rules) returns)

@@ -9,8 +9,8 @@ use Rattle.kinds.proofs.single.layer_two.Tie as tie
 returns : tie.Need-returns
 unfolding layer_two
 returns c =
-    let r = c.before.before.args.r in
-    rw (c.before.layer.ensures, ← empty_length (take r.count r.gateways), c.gateway-count.ensures.0)
+    let r = c.args.r in
+    rw (c.layer.ensures, ← empty_length (take r.count r.gateways), c.gateway_count.ensures.0)
 
 pub layer_two_spec : {M : Type 1} → statement M
 layer_two_spec = tie.close (tie.spec (λ c κs. search rules) (λ c κs. search rules) returns)

@@ -17,28 +17,28 @@ use Rattle.kinds.proofs.single.non_enforceable.Tie as tie
 abbrev none : Coefficients
 none = record { header = 0; payload = 0; confidentiality = 0 }
 
-null : tie.Need-returns
+null : tie.Need-returns-then-u-eq0
 unfolding non_enforceable
-null c = rw (eq-eqb _ _ c.if1.true)
+null c = rw (eq-eqb _ _ c.if-u-eq0.true)
 
 -- what stands among the caps, read as coefficients
 capped : (s : tie.Start)
-    → get_or (map coefficients_of s.args.t3) (s.args.r.technology - 1) []
-    ≡ coefficients_of (get_or s.args.t3 (s.args.r.technology - 1) none)
+    → get_or (map coefficients_of s.args.caps) (s.args.r.technology - 1) []
+    ≡ coefficients_of (get_or s.args.caps (s.args.r.technology - 1) none)
 capped s =
-    let n : length s.args.t3 ≡ technologies = search rules in
-    let m = length-map s.args.t3 coefficients_of in
+    let n : length s.args.caps ≡ technologies = search rules in
+    let m = length-map s.args.caps coefficients_of in
     let k = s.args.r.technology - 1 in
-    get_d_default (map coefficients_of s.args.t3) k [] (coefficients_of none) (omega (arith, s.requires))
-    ∙ get_or-map coefficients_of s.args.t3 k none
+    get_d_default (map coefficients_of s.args.caps) k [] (coefficients_of none) (omega (arith, s.requires))
+    ∙ get_or-map coefficients_of s.args.caps k none
 
-other : tie.Need-returns-2
+other : tie.Need-returns
 unfolding non_enforceable
 other c =
     let l = c.before.before in
-    let s = l.before.before.before in
+    let s = l.before.before.before.before in
     rw
-    (ne_eqb _ _ l.before.before.if1.false, capped s, l.lacks.ensures, c.before.lacks2.ensures, c.at_least.ensures)
+    (ne_eqb _ _ l.if-u-eq0.false, capped s, l.lacks.ensures, c.lacks-2.ensures, c.at_least.ensures)
 
 pub non_enforceable_spec : {M : Type 1} → statement M
 non_enforceable_spec =

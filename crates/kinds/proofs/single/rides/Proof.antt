@@ -9,20 +9,20 @@ use Rattle.kinds.proofs.single.rides.Statement.{statement}
 use Rattle.kinds.proofs.single.rides.Tie as tie
 
 -- the gateways are as many as they are counted
-ordered : (c : tie.After-in-order)
-    → let a = c.before.before.before.before.args in
+ordered : (c : tie.After-in_order)
+    → let a = c.args in
     c.in_order.result ≡ in_order a.p.from a.p.to (take a.q.row.count a.q.row.gateways)
 ordered c =
-    let r = c.before.before.before.before.args.q.row in
-    rw (← take_own r.count r.gateways, ← c.before.gateway-count.ensures.0) c.in_order.ensures
+    let r = c.args.q.row in
+    rw (← take_own r.count r.gateways, ← c.gateway_count.ensures.0) c.in_order.ensures
 
-not_ordered : tie.Need-returns
+not_ordered : tie.Need-returns-then-not-in_order
 unfolding rides
-not_ordered c = rw (sym (ordered c.before) ∙ not-true c.before.in_order.result c.if1.true)
+not_ordered c = rw (sym (ordered c.before) ∙ c.if-not-in_order.true)
 
-both : tie.Need-returns-2
+both : tie.Need-returns
 unfolding rides
-both c = rw (sym (ordered c.before.before) ∙ not-false c.before.before.in_order.result c.before.if1.false) c.contains.ensures
+both c = rw (sym (ordered c.before.before.before.before) ∙ c.if-not-in_order.false) c.contains.ensures
 
 pub rides_spec : {M : Type 1} → statement M
 rides_spec =

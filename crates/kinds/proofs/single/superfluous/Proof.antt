@@ -21,90 +21,90 @@ module _ (at : ℕ → Placed) (i j : ℕ) where
   abbrev weak : Bool
   weak = riding && not (at_least (at j).row.coefficients (at i).row.coefficients)
 
-abbrev I : tie.invariant-loop
+abbrev I : tie.invariant-loop-j
 I heads bounds roots rows i p ridden₀ j₀ ridden j =
     (j ≤ rows)
     × (ridden ≡ some j (riding (placed_in heads bounds roots) i))
     × (some j (weak (placed_in heads bounds roots) i) ≡ false)
 
-abbrev μ : tie.decreases-loop
+abbrev μ : tie.decreases-loop-j
 μ heads bounds roots rows i p ridden₀ j₀ ridden j = rows - j
 
 -- the rows of the function's start
 abbrev rows_of : tie.Start I μ → ℕ → Placed
 rows_of s = placed_in s.args.heads.now s.args.bounds.now s.args.roots.now
 
-starts : tie.Need-loop-init I μ
+starts : tie.Need-loop-j-init I μ
 starts c =
     let s = c.before in
     (search rules, sym (some_start (riding (rows_of s) s.args.i)), some_start (weak (rows_of s) s.args.i))
 
 -- the tests that were made are those of rows j and i
-module _ (c : tie.After-at-least I μ) where
+module _ (c : tie.After-at_least I μ) where
   abbrev asked : tie.Start I μ
-  asked = c.before.before.before.before.before.before
+  asked = c.before.before.before.before.before.before.before.before
 
-  abbrev loop : tie.At-loop I μ
-  loop = c.before.before.before.before
+  abbrev loop : tie.At-loop-j I μ
+  loop = c.before.before.before.before.before.before
 
   abbrev i : ℕ
   i = asked.args.i
 
   abbrev j : ℕ
-  j = loop.loop.j
+  j = loop.loop-j.j
 
   -- rows j and i as they were taken out
   abbrev q : Placed
-  q = placed_of c.before.before.placed-at2.result
+  q = placed_of c.placed_at-q.result
 
   abbrev p : Placed
-  p = placed_of loop.before.placed_at_lem.result
+  p = placed_of loop.placed_at-p.result
 
   row_j : q ≡ rows_of asked j
-  row_j = c.before.before.placed-at2.ensures
+  row_j = c.placed_at-q.ensures
 
   row_i : p ≡ rows_of asked i
-  row_i = loop.before.placed_at_lem.ensures
+  row_i = loop.placed_at-p.ensures
 
-  rode : riding (rows_of asked) i j ≡ (not (eqb j i) && c.before.rides.result)
-  rode = ap (λ (t : Bool). not (eqb j i) && t) (sym (c.before.rides.ensures ∙ (λ x. rides (row_j x) (row_i x))))
+  rode : riding (rows_of asked) i j ≡ (not (eqb j i) && c.rides.result)
+  rode = ap (λ (t : Bool). not (eqb j i) && t) (sym (c.rides.ensures ∙ (λ x. rides (row_j x) (row_i x))))
 
   compared : at_least (rows_of asked j).row.coefficients (rows_of asked i).row.coefficients ≡ c.at_least.result
   compared =
       let e : c.at_least.result ≡ at_least q.row.coefficients p.row.coefficients = c.at_least.ensures in
       sym (e ∙ (λ x. at_least (row_j x).row.coefficients (row_i x).row.coefficients))
 
-  tested : weak (rows_of asked) i j ≡ ((not (eqb j i) && c.before.rides.result) && not c.at_least.result)
+  tested : weak (rows_of asked) i j ≡ ((not (eqb j i) && c.rides.result) && not c.at_least.result)
   tested =
       ap (λ (t : Bool). t && not (at_least (rows_of asked j).row.coefficients (rows_of asked i).row.coefficients)) rode
-      ∙ ap (λ (t : Bool). (not (eqb j i) && c.before.rides.result) && not t) compared
+      ∙ ap (λ (t : Bool). (not (eqb j i) && c.rides.result) && not t) compared
 
-next : tie.Need-loop-preserved I μ
+next : tie.Need-loop-j-preserved I μ
 next c =
     let m = c.before in
-    let v = (loop m).loop.invariant in
-    let h : ((not (eqb (j m) (i m)) && m.before.rides.result) && not m.at_least.result) ≡ false = c.if1.false in (
+    let v = (loop m).loop-j.invariant in
+    let h : ((not (eqb (j m) (i m)) && m.rides.result) && not m.at_least.result) ≡ false = c.if-riding-at_least.false in (
       search rules,
-      ap (λ (t : Bool). t || (not (eqb (j m) (i m)) && m.before.rides.result)) v.1
+      ap (λ (t : Bool). t || (not (eqb (j m) (i m)) && m.rides.result)) v.1
           ∙ ap (λ (t : Bool). some (j m) (riding (rows_of (asked m)) (i m)) || t) (sym (rode m))
           ∙ sym (some_more (riding (rows_of (asked m)) (i m)) (j m)),
       some_none (weak (rows_of (asked m)) (i m)) (j m) v.2 (tested m ∙ h),
     )
 
-weaker : tie.Need-returns I μ
+weaker : tie.Need-returns-then-riding-at_least I μ
 unfolding superfluous
 weaker c =
     let m = c.before in
     let n = (asked m).args.rows in
-    rw (some_found (weak (rows_of (asked m)) (i m)) n (j m) m.before.before.before.loop-test.true (tested m ∙ c.if1.true))
+    rw (some_found (weak (rows_of (asked m)) (i m)) n (j m) m.loop-j-test.true (tested m ∙ c.if-riding-at_least.true))
     (sym (and-false (some n (riding (rows_of (asked m)) (i m)))))
 
-end : tie.Need-returns-2 I μ
+end : tie.Need-returns I μ
 unfolding superfluous
 end c =
-    let l = c.before.loop in
+    let l = c.loop-j in
     let s = c.before.before.before in
-    let h = c.loop-test.false in
+    let h = c.loop-j-test.false in
     let e : s.args.rows ≡ l.j = omega arith in
     rw (e, l.invariant.2, and-true (some l.j (riding (rows_of s) s.args.i))) l.invariant.1
 
