@@ -1,55 +1,86 @@
-use Rattle.std.proofs.Common.{rules, ◌≡◌, ◌≤◌, ◌<◌, eqb, ℕ, ◌+◌, ◌-◌, ◌*◌, length, ◌/◌, ◌%◌, Bool, true, false, nat_lt, List, [], ◌∷◌, ◌++◌, slice_index_or, slice_set, bit_or, Fits, w8, w32, w64, Bor, MutBor}
-use Rattle.std.specs.Int.Bits.{bit_and}
-use Rattle.base.specs.Truths.{pick, Decides}
+-- `least` and `rest` meet their contracts: `least` finds the boxes of a block's first cell, and `rest` cuts off what they leave, field by field. Assumes nothing.
+use Rattle.std.proofs.Common.{ℕ, ◌≡◌, ◌+◌, ◌-◌, ◌≤◌, ◌<◌, length, subst, rules, arith}
 use Rattle.policy.specs.Limits.{field_count}
-use Rattle.mesh.specs.Views.{most_cuts, set_at}
-use Rattle.mesh.specs.Blocks.{HasSets, Claiming, Block, HasCell, Bounded, NoneAbove, Middle, Earlier, First, Some, GoOn, Holding}
+use Rattle.covers.proofs.Laws.Sets.{none_left}
+use Rattle.mesh.specs.Blocks.{HasCell}
+use Rattle.mesh.proofs.Laws.Loops.{some_trans}
+use Rattle.mesh.proofs.Laws.Blocks.{first_none, first_late, first_own, Cutting, cutting_start, cutting_end, cut_block, cut_size, cutting_next}
 use Rattle.mesh.proofs.blocks.+least_rest.Goals as goal
 
--- src/blocks.rt:150:9
+-- ---- least
+
+pub least-returns-then-not-has_cell : goal.least-returns-then-not-has_cell
+least-returns-then-not-has_cell t c = first_none c.args.sets.now c.args.lo c.args.hi c.args.best (c.has_cell.ensures.no c.if-not-has_cell.true)
+
 pub least-returns-then-not-before : goal.least-returns-then-not-before
-least-returns-then-not-before t c = ?
+least-returns-then-not-before t c = first_late c.args.sets.now c.args.lo c.args.hi c.args.best (c.before-2.ensures.no c.if-not-before.true)
 
--- src/blocks.rt:154:9
 pub least-returns-then-boxes-eq0 : goal.least-returns-then-boxes-eq0
-least-returns-then-boxes-eq0 t c = ?
+least-returns-then-boxes-eq0 t c =
+    first_own c.args.sets.now c.args.lo c.args.hi c.args.best (c.has_cell.ensures.yes c.if-not-has_cell.false)
+    (λ k m. none_left _ k c.if-boxes-eq0.true ((c.claiming-boxes.ensures k).1 m)) (c.before-2.ensures.yes c.if-not-before.false)
 
--- src/blocks.rt:157:5
 pub least-rest-requires : goal.least-rest-requires
-least-rest-requires t c = ?
+least-rest-requires t c =
+    let some = some_trans c.far.ensures c.chosen-some.ensures in (
+      omega arith,
+      (
+        c.requires,
+        c.has_cell.ensures.yes c.if-not-has_cell.false,
+        record { fields = omega arith; first = λ k h. (c.claiming-boxes.ensures k).0 (some.part k h); all = λ g i l h. absurd (omega arith) },
+        some.not_none,
+      ),
+    )
 
--- src/blocks.rt:169:5
+-- ---- rest
+
 pub rest-loop-f-init : goal.rest-loop-f-init
-rest-loop-f-init t c = ?
+rest-loop-f-init t c =
+    cutting_start c.args.sets.now c.args.lo c.args.hi c.args.best c.args.boxes (search rules) c.requires.0 c.requires.1 c.requires.2
 
--- src/blocks.rt:171:30
+-- there is a field before f
+before_f : (f : ℕ) → f ≤ field_count → 0 < f → f - 1 < field_count
+before_f f l z = omega arith
+
 pub rest-bounds-lo-f : goal.rest-bounds-lo-f
-rest-bounds-lo-f t c = ?
+rest-bounds-lo-f t c = before_f _ c.loop-f.invariant.holding.fields c.loop-f-test.true
 
--- src/blocks.rt:171:37
 pub rest-bounds-short-f : goal.rest-bounds-short-f
-rest-bounds-short-f t c = ?
+rest-bounds-short-f t c = before_f _ c.loop-f.invariant.holding.fields c.loop-f-test.true
 
--- src/blocks.rt:171:13
 pub rest-end-e-requires : goal.rest-end-e-requires
-rest-end-e-requires t c = ?
+rest-end-e-requires t c =
+    let h = before_f _ c.loop-f.invariant.holding.fields c.loop-f-test.true in
+    (h, c.loop-f.invariant.cell _ h, (c.loop-f.invariant.block _ h).1)
 
--- src/blocks.rt:173:9
 pub rest-bounds-past-f : goal.rest-bounds-past-f
-rest-bounds-past-f t c = ?
+rest-bounds-past-f t c = before_f _ c.loop-f.invariant.holding.fields c.loop-f-test.true
 
--- src/blocks.rt:174:13
 pub rest-least-next-requires : goal.rest-least-next-requires
-rest-least-next-requires t c = ?
+rest-least-next-requires t c =
+    let a = c.args in
+    let l = c.loop-f in
+    let long : length a.lo ≡ field_count = search rules in
+    let h = cut_size a.sets.now a.lo a.hi a.best a.boxes l.short l.found l.f c.end-e.result long (λ e. omega arith) l.invariant c.end-e.ensures in (
+      omega arith,
+      cut_block a.sets.now a.lo a.hi a.best a.boxes l.short l.found l.f c.end-e.result long (λ e. omega arith) l.invariant c.end-e.ensures,
+    )
 
--- src/blocks.rt:176:9
 pub rest-bounds-short-f-in-loop-f : goal.rest-bounds-short-f-in-loop-f
-rest-bounds-short-f-in-loop-f t c = ?
+rest-bounds-short-f-in-loop-f t c = before_f _ c.loop-f.invariant.holding.fields c.loop-f-test.true
 
--- src/blocks.rt:169:5
 pub rest-loop-f-preserved : goal.rest-loop-f-preserved
-rest-loop-f-preserved t c = ?
+rest-loop-f-preserved t c =
+    let a = c.args in
+    let l = c.loop-f in
+    let long : length a.lo ≡ field_count = search rules in
+    cutting_next a.sets.now a.lo a.hi a.best a.boxes l.short l.found l.f c.end-e.result long (λ e. omega arith) l.invariant c.end-e.ensures
+    c.least-next.result c.least-next.ensures
 
--- src/blocks.rt:161:1
 pub rest-returns : goal.rest-returns
-rest-returns t c = ?
+rest-returns t c =
+    let a = c.args in
+    let l = c.loop-f in
+    let e : l.f ≡ 0 = omega arith in
+    cutting_end a.sets.now a.lo a.hi a.best a.boxes l.short l.found c.ranges.boxes.fits c.requires.3
+    (subst (Cutting a.sets.now a.lo a.hi a.best a.boxes l.short l.found) e l.invariant)
