@@ -1,8 +1,7 @@
 -- `least` and `rest` meet their contracts: `least` finds the boxes of a block's first cell, and `rest` cuts off what they leave, field by field. Assumes nothing.
-use Rattle.std.proofs.Common.{ℕ, ◌≡◌, ◌+◌, ◌-◌, ◌≤◌, ◌<◌, length, subst, rules, arith}
+use Rattle.std.proofs.Common.{ℕ, ◌≡◌, ◌-◌, ◌≤◌, ◌<◌, length, subst, rules, arith}
 use Rattle.policy.specs.Limits.{field_count}
 use Rattle.covers.proofs.Laws.Sets.{none_left}
-use Rattle.mesh.specs.Blocks.{HasCell}
 use Rattle.mesh.proofs.Laws.Loops.{some_trans}
 use Rattle.mesh.proofs.Laws.Blocks.{first_none, first_late, first_own, Cutting, cutting_start, cutting_end, cut_block, cut_size, cutting_next}
 use Rattle.mesh.proofs.blocks.+least_rest.Goals as goal

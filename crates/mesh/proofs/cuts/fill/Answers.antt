@@ -1,5 +1,5 @@
 -- `fill` meets its contract: the sets of the first n intervals are written, one cut after another. Assumes nothing.
-use Rattle.std.proofs.Common.{ℕ, ◌≡◌, ◌+◌, ◌-◌, ◌*◌, ◌^◌, ◌<◌, sym, ap, subst, arith}
+use Rattle.std.proofs.Common.{ℕ, ◌+◌, ◌*◌, ◌<◌, sym, ap, subst, arith}
 use Rattle.policy.specs.Model.{Range}
 use Rattle.policy.specs.Views.{value, range_of}
 use Rattle.relations.specs.Ranges.{Within}
