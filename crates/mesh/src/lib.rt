@@ -1,5 +1,7 @@
 // Dead rows by a mesh: the row's box is cut before each low and after each high of the boxes that could cover it, and the least packets of cells are
 // examined. The runs of a table are lent, and left unchanged.
+#![tactic(auto)]
+
 pub mod blocks;
 pub mod cuts;
 

@@ -61,7 +61,7 @@ module _ (d : tie.After-sets-2-1 I μ) where
 
   ready : Ready (s l).args.bounds.now (s l).args.cover.at (s l).args.cover.count (s l).args.row l.loop-f.sets past field_count
   ready =
-      let e : l.loop-f.f ≡ field_count = omega (arith, l.loop-f.invariant.0, d.loop-f-test.left) in
+      let e : l.loop-f.f ≡ field_count = omega (arith, l.loop-f.invariant.0, d.loop-f-test.false) in
       subst (Ready (s l).args.bounds.now (s l).args.cover.at (s l).args.cover.count (s l).args.row l.loop-f.sets past) e l.loop-f.invariant.3
 
   zeros : (f : ℕ) → f < field_count → at (replicate field_count 0) f ≡ 0

@@ -57,5 +57,5 @@ after_spec =
     tie.close
     (tie.spec I μ (λ c. (omega arith, nearest_none (range_of c.args.r) (field_of c.args.bounds.now c.args.at.now c.args.f) (value c.args.v) c.requires.2))
     (λ c. let h = c.loop-k-test.true in let n = c.requires.1.few in search rules)
-    (λ c. let h = number c.before in omega arith) (λ c κs. (number c.before, c.requires.0)) (λ c κs. search rules) (λ c κs. search rules)
+    (λ c. let h = number c.before.before in omega arith) (λ c κs. (number c.before.before, c.requires.0)) (λ c κs. search rules) (λ c κs. search rules)
     (λ c. let n = c.requires.1.few in search rules) (λ c. search rules) again returns)
