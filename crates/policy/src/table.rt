@@ -28,7 +28,7 @@ pub type Heads = [u8; HEAD_COUNT * ROWS];
 // Ten words for each selector, as specs/Words.antt lays them out: first the rows' selectors, then the filters'.
 pub type Bounds = [u64; WORD_COUNT * SELECTORS];
 
-#[derive(Drop)]
+#[derive(Clone, Copy)]
 pub struct Table {
     // how many entities there are, and of each its parent, layer and mask
     pub entities: usize,

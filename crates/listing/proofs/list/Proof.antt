@@ -23,93 +23,93 @@ use Rattle.listing.proofs.Laws.Kept.{Marking, Marked, marking_start, marking_few
 use Rattle.listing.proofs.list.Statement.{statement}
 use Rattle.listing.proofs.list.Tie as tie
 
-abbrev I : tie.invariant-loop
+abbrev I : tie.invariant-loop-i
 I out t roots kept₀ caps floor n₀ i₀ kept n i = (i ≤ t.rows) × Marking t roots kept.own kept.pairs n i
 
-abbrev μ : tie.decreases-loop
+abbrev μ : tie.decreases-loop-i
 μ out t roots kept₀ caps floor n₀ i₀ kept n i = t.rows - i
 
 -- what the table keeps
 module _ (s : tie.Start I μ) where
   abbrev t : TableStruct
-  t = s.args.t1
+  t = s.args.t
 
   held : Held t
-  held = s.pre.0
+  held = s.requires.0
 
   well : Wellformed (table_of t)
-  well = s.pre.1
+  well = s.requires.1
 
   size : Sized t
-  size = sized t s.good.0
+  size = sized t s.well_formed.0
 
   parents : Parents t.parents
   parents = lent_parents t size held well
 
 -- the roots that were found
-module _ (c : tie.After-roots-of I μ) where
+module _ (c : tie.After-roots_of-roots I μ) where
   abbrev s : tie.Start I μ
-  s = c.before.before.before.before.before.before
+  s = c.before.before.before.before.before
 
-  rooted : Rooted (t s).parents (t s).heads (t s).bounds (t s).rows c.roots-of.result
-  rooted = c.roots-of.ensures
+  rooted : Rooted (t s).parents (t s).heads (t s).bounds (t s).rows c.roots_of-roots.result
+  rooted = c.roots_of-roots.ensures
 
-starts : tie.Need-loop-init I μ
+starts : tie.Need-loop-i-init I μ
 starts c =
     let r = c.before.before in
     let a = s r in
     (omega arith, marking_start (t a) (size a) (held a) (well a) _ (rooted r))
 
-row_asked : tie.Need-of-row-requires I μ
+row_asked : tie.Need-of_row-alone-requires I μ
 row_asked c κs =
     let k = c.before.before.before.before.before.before.before.before in
     let r = k.before.before.before.before in
-    good_alone (t (s r)) (size (s r)) (held (s r)) (well (s r)) _ (rooted r) k.before.loop.i k.loop-test.true (parents (s r))
+    good_alone (t (s r)) (size (s r)) (held (s r)) (well (s r)) _ (rooted r) k.loop-i.i k.loop-i-test.true (parents (s r))
 
 -- row i, and the kinds of it alone that were found
-module _ (c : tie.After-of-row I μ) where
-  abbrev loop : tie.At-loop I μ
-  loop = c.before.before.before.before.before.before.before.before.before.before
+module _ (c : tie.After-of_row-alone I μ) where
+  abbrev loop : tie.At-loop-i I μ
+  loop = c.before.before.before.before.before.before.before.before.before
 
-  abbrev r : tie.After-roots-of I μ
+  abbrev r : tie.After-roots_of-roots I μ
   r = loop.before.before.before
 
-  h : loop.loop.i < (t (s r)).rows
-  h = c.before.before.before.before.before.before.before.before.before.loop-test.true
+  h : loop.loop-i.i < (t (s r)).rows
+  h = c.loop-i-test.true
 
-pairs_asked : tie.Need-of-pairs-requires I μ
+pairs_asked : tie.Need-of_pairs-requires I μ
 pairs_asked c κs =
     let o = c.before.before.before.before.before.before in
     let a = s (r o) in
     record { tree = parents a; each = good_rows (t a) (size a) (held a) (well a); few = (held a).rows; row = h o }
 
 -- the kinds of row i with each row
-module _ (c : tie.After-of-pairs I μ) where
-  abbrev o : tie.After-of-row I μ
-  o = c.before.before.before.before.before.before.before
+module _ (c : tie.After-of_pairs I μ) where
+  abbrev o : tie.After-of_row-alone I μ
+  o = c.before.before.before.before.before.before
 
   abbrev a : tie.Start I μ
   a = s (r o)
 
   abbrev count : ℕ
-  count = row_count o.of_row.result c.of-pairs.new.1.1.1.1.1.1.0 (t a).rows (loop o).loop.i
+  count = row_count o.of_row-alone.result c.of_pairs.new.pairs (t a).rows (loop o).loop-i.i
 
-  few : (loop o).loop.n + count ≤ most_entries
-  few = marking_few (t a) (size a) (held a) (well a) _ (rooted (r o)) (loop o).loop.inv.1 (h o) o.of_row.ensures c.of-pairs.ensures
+  few : (loop o).loop-i.n + count ≤ most_entries
+  few = marking_few (t a) (size a) (held a) (well a) _ (rooted (r o)) (loop o).loop-i.invariant.1 (h o) o.of_row-alone.ensures c.of_pairs.ensures
 
-  next : Marking (t a) (r o).roots-of.result (set (loop o).loop.kept.own (loop o).loop.i o.of_row.result) c.of-pairs.new.1.1.1.1.1.1.0 ((loop o).loop.n + count) ((loop o).loop.i + 1)
-  next = marking_next (t a) (size a) (held a) (well a) _ (rooted (r o)) (loop o).loop.inv.1 (h o) o.of_row.ensures c.of-pairs.ensures
+  next : Marking (t a) (r o).roots_of-roots.result (set (loop o).loop-i.kept.own (loop o).loop-i.i o.of_row-alone.result) c.of_pairs.new.pairs ((loop o).loop-i.n + count) ((loop o).loop-i.i + 1)
+  next = marking_next (t a) (size a) (held a) (well a) _ (rooted (r o)) (loop o).loop-i.invariant.1 (h o) o.of_row-alone.ensures c.of_pairs.ensures
 
-again : tie.Need-loop-preserved I μ
+again : tie.Need-loop-i-preserved I μ
 again c =
     let p = c.before.before.before in
     let k = h (o p) in
-    (omega arith, rw c.count-row.ensures (next p))
+    (omega arith, rw c.count_row.ensures (next p))
 
 -- all rows are marked, and the filters
-module _ (c : tie.After-of-filters I μ) where
-  abbrev last : tie.At-loop I μ
-  last = c.before.before.before.before.before.before.before
+module _ (c : tie.After-of_filters I μ) where
+  abbrev last : tie.At-loop-i I μ
+  last = c.before.before.before.before.before.before
 
   abbrev b : tie.Start I μ
   b = s last.before.before.before
@@ -117,24 +117,24 @@ module _ (c : tie.After-of-filters I μ) where
   abbrev es : List Entry
   es = entries (table_of (t b))
 
-  all : last.loop.i ≡ (t b).rows
-  all = let k = c.before.before.before.before.before.before.loop-test.false in let m = last.loop.inv.0 in omega arith
+  all : last.loop-i.i ≡ (t b).rows
+  all = let k = c.loop-i-test.false in let m = last.loop-i.invariant.0 in omega arith
 
-  done : Marked (t b) last.loop.kept.own c.of_filters_lem.new.1.1.1.1.0 (last.loop.n + c.of_filters_lem.result)
-  done = marking_all (t b) (size b) (held b) (well b) _ (rooted last.before.before.before) last.loop.inv.1 all c.of_filters_lem.ensures
+  done : Marked (t b) last.loop-i.kept.own c.of_filters.new.pairs (last.loop-i.n + c.of_filters.result)
+  done = marking_all (t b) (size b) (held b) (well b) _ (rooted last.before.before.before) last.loop-i.invariant.1 all c.of_filters.ensures
 
-  most : last.loop.n + c.of_filters_lem.result ≤ most_entries
+  most : last.loop-i.n + c.of_filters.result ≤ most_entries
   most = let n = done.count in let f = entries_few (table_of (t b)) (well b) in omega arith
 
-short : tie.Need-returns I μ
+short : tie.Need-returns-then-out-n I μ
 short c =
     let n = (done c.before).count in
-    let k = c.if1.true in
+    let k = c.if-out-n.true in
     listing_short (es c.before) (b c.before).args.out.now (omega arith)
 
 -- a buffer that is not too short has room for both blocks
-module _ (c : tie.Else1 I μ) where
-  abbrev f : tie.After-of-filters I μ
+module _ (c : tie.Else-out-n I μ) where
+  abbrev f : tie.After-of_filters I μ
   f = c.before
 
   abbrev rows : List Entry
@@ -147,9 +147,9 @@ module _ (c : tie.Else1 I μ) where
   both = entries_blocks (table_of (t (b f)))
 
   room : Room (length (b f).args.out.now) 0 (rows ++ filters)
-  room = rw (← both) (let n = (done f).count in let k = c.if1.false in omega arith)
+  room = rw (← both) (let n = (done f).count in let k = c.if-out-n.false in omega arith)
 
-rows_asked : tie.Need-put-block-requires I μ
+rows_asked : tie.Need-put_block-m-requires I μ
 rows_asked c κs =
     let k = c.before.before.before.before in
     let few = (held (b (f k))).rows in
@@ -157,30 +157,30 @@ rows_asked c κs =
     (subst (Room (length (b (f k)).args.out.now) 0) (sym (done (f k)).rows) m, record { few = few; among = omega arith })
 
 -- the rows' entries are written
-module _ (c : tie.After-put-block I μ) where
-  abbrev e : tie.Else1 I μ
-  e = c.before.before.before.before.before
+module _ (c : tie.After-put_block-m I μ) where
+  abbrev e : tie.Else-out-n I μ
+  e = c.before.before.before.before
 
-  put_rows : Put (b (f e)).args.out.now 0 c.put-block.new.0 c.put-block.result (rows e)
-  put_rows = rw (done (f e)).rows at c.put-block.ensures
+  put_rows : Put (b (f e)).args.out.now 0 c.put_block-m.new.out c.put_block-m.result (rows e)
+  put_rows = rw (done (f e)).rows at c.put_block-m.ensures
 
-filters_asked : tie.Need-put-block-requires-2 I μ
+filters_asked : tie.Need-put_block-requires I μ
 filters_asked c κs =
     let p = c.before.before.before.before.before.before in
     let few = (held (b (f (e p)))).filters in
     (rw (done (f (e p))).filters (room_second (put_rows p) (filters (e p)) (room (e p))), record { few = omega arith; among = omega arith })
 
 -- and then those of the filters
-whole : (c : tie.After-put-block2 I μ) → let k = e c.before.before.before.before.before.before.before in
-    Put (b (f k)).args.out.now 0 c.put-block2.new.0 c.put-block2.result (rows k ++ filters k)
+whole : (c : tie.After-put_block I μ) → let k = e c.before.before.before.before.before.before in
+    Put (b (f k)).args.out.now 0 c.put_block.new.out c.put_block.result (rows k ++ filters k)
 whole c =
     let p = c.before.before.before.before.before.before.before in
-    put_then (put_rows p) (rw (done (f (e p))).filters at c.put-block2.ensures)
+    put_then (put_rows p) (rw (done (f (e p))).filters at c.put_block.ensures)
 
-returns : tie.Need-returns-2 I μ
+returns : tie.Need-returns I μ
 returns c =
     let p = c.before.before in
-    let k = e p.before.before.before.before.before.before.before in
+    let k = e p.before.before.before.before.before.before in
     listing_whole _ (let m = room k in let n = ap length (both k) in omega arith) (done (f k)).count (rw (← both k) at (whole p))
 
 pub list_spec : {M : Type 1} → statement M
@@ -193,12 +193,12 @@ list_spec =
     (λ c. let k = h c in let n = (held (s (r c))).rows in omega arith)
     pairs_asked
     (λ c κs. let p = c.before.before in let f = few p in (h (o p), (held (a p)).rows, omega arith))
-    (λ c. let f = few c.before.before.before in let e = c.count-row.ensures in omega arith)
-    (λ c. let f = few c.before.before.before in let e = c.count-row.ensures in omega arith)
+    (λ c. let f = few c.before.before.before in let e = c.count_row.ensures in omega arith)
+    (λ c. let f = few c.before.before.before in let e = c.count_row.ensures in omega arith)
     (λ c. let k = h (o c.before.before.before) in let n = (held (a c.before.before.before)).rows in omega arith)
     (λ c. let k = h (o c.before.before.before) in omega arith)
     again
-    (λ c κs. let l = c.before.before.before.before.before.before in ((held (s l.before.before.before)).filters, l.loop.invariant.1.pairs_long))
+    (λ c κs. let l = c.before.before.before.before.before.before in ((held (s l.before.before.before)).filters, l.loop-i.invariant.1.pairs_long))
     (λ c. let m = most c in omega arith)
     (λ c. let m = most c in omega arith)
     (λ c. let m = most c in omega arith)

@@ -17,47 +17,47 @@ use Rattle.covers.proofs.Laws.Tables.{lent_asked}
 use Rattle.striking.proofs.dead_rows.Statement.{statement}
 use Rattle.striking.proofs.dead_rows.Tie as tie
 
-abbrev I : tie.invariant-loop
+abbrev I : tie.invariant-loop-i
 I t dead₀ i₀ flags i =
     (i ≤ t.rows)
     × (length flags ≡ most_rows)
     × ((k : ℕ) → k < i → get_or flags k false ≡ dead (table_of t) k)
     × ((k : ℕ) → i ≤ k → get_or flags k false ≡ false)
 
-abbrev μ : tie.decreases-loop
+abbrev μ : tie.decreases-loop-i
 μ t dead₀ i₀ flags i = t.rows - i
 
-size : (s : tie.Start I μ) → Sized s.args.t1
-size s = sized s.args.t1 s.well-formed.0
+size : (s : tie.Start I μ) → Sized s.args.t
+size s = sized s.args.t s.well_formed.0
 
-asked : tie.Need-is-dead-requires I μ
+asked : tie.Need-is_dead-requires I μ
 asked c κs =
-    let l = c.before.before.before.before.before in
-    let s = l.before in
-    lent_asked s.args.t1 (size s) s.requires.0 s.requires.1 l.loop.i c.before.before.before.before.loop-test.true
+    let l = c in
+    let s = c.before.before.before.before.before in
+    lent_asked s.args.t (size s) s.requires.0 s.requires.1 l.loop-i.i c.loop-i-test.true
 
-again : tie.Need-loop-preserved I μ
+again : tie.Need-loop-i-preserved I μ
 again c =
-    let l = c.before.before.before.before.before.before in
-    let s = l.before in
-    let t = s.args.t1 in
-    let h = c.before.before.before.before.before.loop-test.true in
+    let l = c in
+    let s = c.before.before.before.before.before.before in
+    let t = s.args.t in
+    let h = c.loop-i-test.true in
     let n = s.requires.0.rows in
-    let m = l.loop.invariant.1 in (
+    let m = l.loop-i.invariant.1 in (
       omega arith,
-      length-set l.loop.dead l.loop.i c.is-dead.result ∙ m,
-      filled_more false (dead (table_of t)) l.loop.dead l.loop.i c.is-dead.result (omega arith) l.loop.invariant.2
-          (c.is-dead.ensures ∙ ap is_none (lent_verdict t (size s) s.requires.0 l.loop.i h)),
+      length-set l.loop-i.dead l.loop-i.i c.is_dead.result ∙ m,
+      filled_more false (dead (table_of t)) l.loop-i.dead l.loop-i.i c.is_dead.result (omega arith) l.loop-i.invariant.2
+          (c.is_dead.ensures ∙ ap is_none (lent_verdict t (size s) s.requires.0 l.loop-i.i h)),
       λ k b.
-          get_or-set_other l.loop.dead l.loop.i k c.is-dead.result false (λ q. absurd (omega arith))
-          ∙ l.loop.invariant.3 k (omega arith),
+          get_or-set_other l.loop-i.dead l.loop-i.i k c.is_dead.result false (λ q. absurd (omega arith))
+          ∙ l.loop-i.invariant.3 k (omega arith),
     )
 
 returns : tie.Need-returns I μ
 returns c =
-    let l = c.before.loop in
-    let t = c.before.before.args.t1 in
-    let h = c.loop-test.false in
+    let l = c.loop-i in
+    let t = c.args.t in
+    let h = c.loop-i-test.false in
     let m = l.invariant.0 in
     let n = length_rows t.heads t.bounds t.rows in
     record { at = λ k b. l.invariant.2 k (omega arith); past = λ k b. l.invariant.3 k (omega arith) }

@@ -8,14 +8,14 @@ use Rattle.reader.specs.Lines.{line_feed}
 use Rattle.striking.proofs.next_place.Statement.{statement}
 use Rattle.striking.proofs.next_place.Tie as tie
 
-feed : tie.Need-returns
+feed : tie.Need-returns-then-c-eq10
 feed c =
-    let h : c.before.args.c ≡ line_feed = omega (arith, c.if1.true) in
+    let h : c.args.c ≡ line_feed = omega (arith, c.if-c-eq10.true) in
     rw (eq-eqb _ _ h) (add-one _)
 
-same : tie.Need-returns-2
+same : tie.Need-returns-else-c-eq10
 same c =
-    let h : c.before.args.c ≡ line_feed → ⊥ = c.if1.false in
+    let h : c.args.c ≡ line_feed → ⊥ = c.if-c-eq10.false in
     rw (ne_eqb _ _ h) refl
 
 pub next_place_spec : {M : Type 1} → statement M

@@ -19,7 +19,7 @@ use Rattle.striking.proofs.Laws.Bytes.{struck_bytes}
 use Rattle.striking.proofs.strike.Statement.{statement}
 use Rattle.striking.proofs.strike.Tie as tie
 
-module _ (c : tie.After-lines-before) where
+module _ (c : tie.After-lines_before-others) where
   abbrev s : tie.Start
   s = c.before.before.before.before
 
@@ -30,10 +30,10 @@ module _ (c : tie.After-lines-before) where
   text = s.args.text.now
 
   abbrev flags : List Bool
-  flags = c.before.dead-rows.result
+  flags = c.dead_rows-dead.result
 
   count : Counted t
-  count = let z = (sized t s.good.1.0).caps in let h = s.pre.0.capped in counted t (omega arith)
+  count = let z = (sized t s.well_formed.1.0).caps in let h = s.requires.0.capped in counted t (omega arith)
 
   abbrev out : List ℕ
   out = s.args.out.now
@@ -41,52 +41,52 @@ module _ (c : tie.After-lines-before) where
   abbrev result : List ℕ
   result = struck_text text (table_of t)
 
-  before : c.lines-before.result ≡ lines_before 1 (table_of t)
-  before = let n = count in omega (arith, c.lines-before.ensures, n.entities, n.caps, n.filters)
+  before : c.lines_before-others.result ≡ lines_before 1 (table_of t)
+  before = let n = count in omega (arith, c.lines_before-others.ensures, n.entities, n.caps, n.filters)
 
-  struck : kept_bytes (keeps flags c.lines-before.result) 0 text ≡ result
+  struck : kept_bytes (keeps flags c.lines_before-others.result) 0 text ≡ result
   struck =
       ap (λ (n : ℕ). kept_bytes (keeps flags n) 0 text) before
-      ∙ struck_bytes text (table_of t) s.pre.1 flags c.before.dead-rows.ensures
+      ∙ struck_bytes text (table_of t) s.requires.1 flags c.dead_rows-dead.ensures
 
 -- the length
-module _ (c : tie.After-kept-length) where
-  abbrev flagged : tie.After-lines-before
+module _ (c : tie.After-kept_length-n) where
+  abbrev flagged : tie.After-lines_before-others
   flagged = c.before.before
 
-  long : c.kept-length.result ≡ length (result flagged)
-  long = c.kept-length.ensures ∙ ap length (struck flagged)
+  long : c.kept_length-n.result ≡ length (result flagged)
+  long = c.kept_length-n.ensures ∙ ap length (struck flagged)
 
-short : tie.Need-returns
+short : tie.Need-returns-then-out-n
 short c =
     let k = c.before in
     let f = flagged k in
-    let h = c.if1.true in
+    let h = c.if-out-n.true in
     let n = long k in
     let l : length (out f) < length (result f) = omega arith in
     writes_not (result f) (out f) l
 
-room : tie.Need-copy-kept-requires
+room : tie.Need-copy_kept-requires
 room c κs =
     let k = c.before.before.before in
-    let h = c.before.before.if1.false in
-    let n = k.kept-length.ensures in
+    let h = c.if-out-n.false in
+    let n = k.kept_length-n.ensures in
     omega arith
 
 -- what is written
-module _ (c : tie.After-copy-kept) where
-  abbrev measured : tie.After-kept-length
+module _ (c : tie.After-copy_kept) where
+  abbrev measured : tie.After-kept_length-n
   measured = c.before.before.before.before
 
-  stored : c.copy-kept.new.1.1.1.0 ≡ sets (out (flagged measured)) 0 (result (flagged measured))
-  stored = c.copy-kept.ensures ∙ ap (sets (out (flagged measured)) 0) (struck (flagged measured))
+  stored : c.copy_kept.new.out ≡ sets (out (flagged measured)) 0 (result (flagged measured))
+  stored = c.copy_kept.ensures ∙ ap (sets (out (flagged measured)) 0) (struck (flagged measured))
 
-whole : tie.Need-returns-2
+whole : tie.Need-returns
 whole c =
     let d = c.before.before in
     let k = measured d in
     let f = flagged k in
-    let h = d.before.before.before.if1.false in
+    let h = d.if-out-n.false in
     let n = long k in
     let l : length (result f) ≤ length (out f) = omega arith in
     writes_stored (result f) (out f) l _ (omega arith) (stored d)
@@ -95,8 +95,8 @@ pub strike_spec : {M : Type 1} → statement M
 strike_spec =
     tie.close
     (tie.spec
-    (λ c κs. (c.before.before.requires.0, accepted_wellformed _ _ c.before.before.requires.1))
-    (λ c κs. let h = c.before.before.before.requires.0 in (h.entities, h.capped, h.filters))
+    (λ c κs. (c.requires.0, accepted_wellformed _ _ c.requires.1))
+    (λ c κs. let h = c.requires.0 in (h.entities, h.capped, h.filters))
     (λ c κs. search rules)
     short
     room

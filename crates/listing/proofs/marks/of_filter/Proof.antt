@@ -13,46 +13,46 @@ use Rattle.listing.proofs.Laws.Filters.{few_marks, filter_start, filter_few, fil
 use Rattle.listing.proofs.marks.of_filter.Statement.{statement}
 use Rattle.listing.proofs.marks.of_filter.Tie as tie
 
-abbrev I : tie.invariant-loop
+abbrev I : tie.invariant-loop-m
 I roots actions bounds filters k pairs₀ f at n₀ m₀ pairs n m = (m ≤ filters) × MarkedFilter roots actions bounds m k pairs₀ pairs n
 
-abbrev μ : tie.decreases-loop
+abbrev μ : tie.decreases-loop-m
 μ roots actions bounds filters k pairs₀ f at n₀ m₀ pairs n m = filters - m
 
 -- a place of filter k is one of the array's
-within : (c : tie.In-loop I μ) → most_rows * c.before.before.before.args.k + c.before.loop.m < most_rows * most_rows
+within : (c : tie.In-loop-m I μ) → most_rows * c.args.k + c.loop-m.m < most_rows * most_rows
 within c =
-    let h = c.loop-test.true in
+    let h = c.loop-m-test.true in
     let s = c.before.before.before in
     omega (arith, s.requires.0, s.requires.1)
 
 -- the kinds that were found
-module _ (c : tie.After-of-filter-pair I μ) where
-  abbrev l : tie.At-loop I μ
+module _ (c : tie.After-of_filter_pair-marks I μ) where
+  abbrev l : tie.At-loop-m I μ
   l = c.before.before.before
 
   abbrev s : tie.Start I μ
   s = l.before.before
 
-  found : c.of-filter-pair.result ≡ filter_marks s.args.roots.now s.args.actions.now s.args.bounds.now s.args.k l.loop.m
+  found : c.of_filter_pair-marks.result ≡ filter_marks s.args.roots.now s.args.actions.now s.args.bounds.now s.args.k l.loop-m.m
   found =
-      c.of-filter-pair.ensures
-      ∙ (λ w. bits_of (filter_tests s.args.k l.loop.m (l.before.filter-at.ensures w) (c.before.filter-at2.ensures w)))
+      c.of_filter_pair-marks.ensures
+      ∙ (λ w. bits_of (filter_tests s.args.k l.loop-m.m (l.filter_at-f.ensures w) (c.filter_at.ensures w)))
 
-again : tie.Need-loop-preserved I μ
+again : tie.Need-loop-m-preserved I μ
 again c =
-    let p = c.before in
+    let p = c.before.before in
     let a = (s p).args in
-    let h = p.before.before.loop-test.true in
-    (omega arith, rw (found p) (filter_next a.roots.now a.actions.now a.bounds.now (l p).loop.invariant.1 refl))
+    let h = p.loop-m-test.true in
+    (omega arith, rw (found p) (filter_next a.roots.now a.actions.now a.bounds.now (l p).loop-m.invariant.1 refl))
 
 -- there are so few that they can be counted
-few : (c : tie.After-of-filter-pair I μ) → (l c).loop.n + ones c.of-filter-pair.result ≤ 1000
+few : (c : tie.After-of_filter_pair-marks I μ) → (l c).loop-m.n + ones c.of_filter_pair-marks.result ≤ 1000
 few c =
     let a = (s c).args in
-    let i = (l c).loop in
-    let h = filter_few a.roots.now a.actions.now a.bounds.now i.inv.1 in
-    let b = c.before.before.loop-test.true in
+    let i = (l c).loop-m in
+    let h = filter_few a.roots.now a.actions.now a.bounds.now i.invariant.1 in
+    let b = c.loop-m-test.true in
     let o = ap ones (found c) in
     omega (arith, few_marks a.roots.now a.actions.now a.bounds.now a.k i.m, (s c).requires.1)
 
@@ -62,17 +62,17 @@ of_filter_spec =
     (tie.spec I μ
     (λ c κs. let h = c.requires.0 in let n = c.requires.1 in omega arith)
     (λ c. let s = c.before in omega (arith, s.requires.0, s.requires.1))
-    (λ c. let a = c.before.args in (omega arith, filter_start a.roots.now a.actions.now a.bounds.now a.pairs.now a.k))
-    (λ c κs. let h = c.loop-test.true in let n = c.before.before.before.requires.1 in omega arith)
+    (λ c. let a = c.args in (omega arith, filter_start a.roots.now a.actions.now a.bounds.now a.pairs.now a.k))
+    (λ c κs. let h = c.loop-m-test.true in let n = c.requires.1 in omega arith)
     (λ c κs. search rules)
     (λ c. let h = few c in omega arith)
     (λ c. let h = within c.before.before in omega arith)
     (λ c. let h = within c.before.before in omega arith)
-    (λ c. let h = within c.before.before in omega arith)
     (λ c. let h = within c.before.before.before in omega arith)
-    (λ c. let h = within c.before.before.before in omega arith)
-    (λ c. let h = within c.before.before.before in omega arith)
-    (λ c. let h = within c.before.before.before in omega arith)
-    (λ c. let h = c.before.before.before.loop-test.true in omega arith)
+    (λ c. let h = within c.before.before.before.before in omega arith)
+    (λ c. let h = within c.before.before.before.before in omega arith)
+    (λ c. let h = within c.before.before.before.before in omega arith)
+    (λ c. let h = within c.before.before.before.before in omega arith)
+    (λ c. let h = c.loop-m-test.true in omega arith)
     again
-    (λ c. let i = c.before.loop in rw (le_antisymm i.invariant.0 c.loop-test.false) at i.invariant.1))
+    (λ c. let i = c.loop-m in rw (le_antisymm i.invariant.0 c.loop-m-test.false) at i.invariant.1))

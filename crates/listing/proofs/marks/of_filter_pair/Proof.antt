@@ -7,7 +7,7 @@ use Rattle.listing.proofs.marks.of_filter_pair.Tie as tie
 returns : tie.Need-returns
 returns c =
     let r = c.before.before in
-    rw (r.before.shadowing.ensures, r.redundancy.ensures) at c.bits_of.ensures
+    rw (r.shadowing.ensures, r.redundancy.ensures) at c.bits_of.ensures
 
 pub of_filter_pair_spec : {M : Type 1} → statement M
 of_filter_pair_spec =

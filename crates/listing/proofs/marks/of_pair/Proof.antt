@@ -13,16 +13,16 @@ use Rattle.base.proofs.Laws.Bits.{bits_none}
 use Rattle.listing.proofs.marks.of_pair.Statement.{statement}
 use Rattle.listing.proofs.marks.of_pair.Tie as tie
 
-apart : tie.Need-returns
+apart : tie.Need-returns-then-not-overlaps
 apart c =
     let s = c.before.before in
     sym
     (ap bits_of
     (apart_none (parent_in s.args.parents.now) s.args.i s.args.j (placed_of s.args.p) (placed_of s.args.q) s.requires.1.ordered s.requires.2.ordered
-    (sym c.before.overlaps.ensures ∙ not-true _ c.if1.true))
+    (sym c.overlaps.ensures ∙ c.if-not-overlaps.true))
     ∙ bits_none (kind_count + 1))
 
-asked : tie.Need-pair-of-requires
+asked : tie.Need-pair_of-s-requires
 asked c κs =
     let s = c.before.before in (
       s.requires.0,
@@ -31,11 +31,11 @@ asked c κs =
         destination = s.requires.1.destination;
         other_source = s.requires.2.source;
         other_destination = s.requires.2.destination;
-        overlap = sym c.before.overlaps.ensures ∙ not-false _ c.if1.false;
+        overlap = sym c.overlaps.ensures ∙ c.if-not-overlaps.false;
       },
     )
 
-overlapping : tie.Need-returns-2
+overlapping : tie.Need-returns
 overlapping c =
     let m = c.before.before in
     let s = m.before in
@@ -57,7 +57,7 @@ overlapping c =
       s.skewed.ensures,
       m.monitorable.ensures,
     ) at c.bits_of.ensures
-    ∙ ap (λ (q : Pair). bits_of (pair_tests q)) h.before.pair_of.ensures
+    ∙ ap (λ (q : Pair). bits_of (pair_tests q)) h.pair_of-s.ensures
 
 pub of_pair_spec : {M : Type 1} → statement M
 of_pair_spec =

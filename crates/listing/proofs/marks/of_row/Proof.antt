@@ -13,16 +13,16 @@ use Rattle.listing.proofs.marks.of_row.Statement.{statement}
 use Rattle.listing.proofs.marks.of_row.Tie as tie
 
 -- the row that was read
-module _ (c : tie.After-placed-at) where
+module _ (c : tie.After-placed_at-p) where
   abbrev s : tie.Start
   s = c.before.before
 
-  read : placed_of c.placed_at_lem.result ≡ placed_in s.args.heads.now s.args.bounds.now s.args.roots.now s.args.a.i
-  read = c.placed_at_lem.ensures
+  read : placed_of c.placed_at-p.result ≡ placed_in s.args.heads.now s.args.bounds.now s.args.roots.now s.args.a.i
+  read = c.placed_at-p.ensures
 
 -- what was asked, from the third kind on
-abbrev asked : tie.After-non-enforceable → tie.Start
-asked c = s c.before.before.before.before.before.before.before.before
+abbrev asked : tie.After-non_enforceable → tie.Start
+asked c = s c.before.before.before.before.before.before.before.before.before
 
 returns : tie.Need-returns
 returns c =
@@ -37,11 +37,11 @@ returns c =
     let non = inad.before in
     let out = non.before.before.before.before.before in
     let loop = out.before in
-    let p = loop.before.before in
+    let p = loop.before.before.before.before in
     let q = (s p).args in
     let e = read p in
     let mask : ℕ → ℕ = λ x. get_or q.masks.now x 0 in
-    let verdict : dead.is-dead.result ≡ is_none (verdict_in q.parents.now q.heads.now q.bounds.now q.a.i) = dead.is-dead.ensures in
+    let verdict : dead.is_dead.result ≡ is_none (verdict_in q.parents.now q.heads.now q.bounds.now q.a.i) = dead.is_dead.ensures in
     rw (
       loop.internal_loop.ensures ∙ ap internal_loop e,
       out.out_of_place.ensures ∙ ap out_of_place e,
@@ -62,24 +62,24 @@ pub of_row_spec : {M : Type 1} → statement M
 of_row_spec =
     tie.close
     (tie.spec
-    (λ c κs. c.before.requires.place)
+    (λ c κs. c.requires.place)
     (λ c κs. search rules) (λ c. search rules) (λ c κs. search rules) (λ c. search rules) (λ c. search rules)
-    (λ c. let p = c.before.before.before.before in let e = ap (λ (q : Placed). q.from) (read p) in let h = (s p).requires.from in omega arith)
+    (λ c. let p = c.before.before.before.before.before in let e = ap (λ (q : Placed). q.from) (read p) in let h = (s p).requires.from in omega arith)
     (λ c. search rules)
-    (λ c. let p = c.before.before.before.before.before.before in let e = ap (λ (q : Placed). q.to) (read p) in let h = (s p).requires.to in omega arith)
-    (λ c κs. let p = c.before.before.before.before.before.before.before in
+    (λ c. let p = c.before.before.before.before.before.before.before in let e = ap (λ (q : Placed). q.to) (read p) in let h = (s p).requires.to in omega arith)
+    (λ c κs. let p = c.before.before.before.before.before.before.before.before in
     let e = ap (λ (q : Placed). q.row.technology) (read p) in
     let h = (s p).requires.row.technology in
     omega arith)
     (λ c. search rules) (λ c κs. search rules) (λ c. search rules)
-    (λ c κs. let a = asked c.before in (a.pre.few, a.pre.place))
+    (λ c κs. let a = asked c.before.before in (a.requires.few, a.requires.place))
     (λ c. search rules)
-    (λ c κs. (asked c.before.before).requires.few_filters)
+    (λ c κs. (asked c.before.before.before).requires.few_filters)
     (λ c. search rules) (λ c κs. search rules) (λ c. search rules)
-    (λ c κs. let a = asked c.before.before.before.before in (a.pre.few, a.pre.place))
+    (λ c κs. let a = asked c.before.before.before.before.before in (a.requires.few, a.requires.place))
     (λ c. search rules) (λ c κs. search rules) (λ c. search rules)
-    (λ c κs. let a = asked c.before.before.before.before.before.before in (a.pre.few, a.pre.place))
+    (λ c κs. let a = asked c.before.before.before.before.before.before.before in (a.requires.few, a.requires.place))
     (λ c. search rules)
-    (λ c κs. let a = asked c.before.before.before.before.before.before.before in
-    record { row = a.pre.place; ends = record { parents = a.pre.tree; source = a.pre.row.source; destination = a.pre.row.destination } })
+    (λ c κs. let a = asked c.before.before.before.before.before.before.before.before in
+    record { row = a.requires.place; ends = record { parents = a.requires.tree; source = a.requires.row.source; destination = a.requires.row.destination } })
     (λ c. search rules) (λ c κs. refl) returns)

@@ -12,32 +12,32 @@ use Rattle.listing.proofs.put.put.Statement.{statement}
 use Rattle.listing.proofs.put.put.Tie as tie
 
 -- there is room for the entry
-room : (c : tie.Then1) → entry_bytes * (c.before.args.n + 1) ≤ length c.before.args.out.now
-room c = rw c.if1.true at c.before.requires
+room : (c : tie.Then-listed) → entry_bytes * (c.args.n + 1) ≤ length c.args.out.now
+room c = rw c.if-listed.true at c.requires
 
 -- its bytes after the first are within a buffer that stores leave as long
-second : tie.Need-slice-write-out-2
+second : tie.Need-bounds-out-at-then-listed
 second c =
     let h = room c in
-    let a = c.before.args in
+    let a = c.args in
     lt-length-sets a.out.now (entry_bytes * a.n) (a.i ∷ []) (omega arith)
 
-third : tie.Need-slice-write-out-3
+third : tie.Need-bounds-out-at-then-listed-2
 third c =
     let h = room c in
-    let a = c.before.args in
+    let a = c.args in
     lt-length-sets (set a.out.now (entry_bytes * a.n) a.i) (entry_bytes * a.n + 1) (a.kind ∷ []) (lt-length-sets a.out.now (entry_bytes * a.n) (a.i ∷ []) (omega arith))
 
-stored : tie.Need-returns
+stored : tie.Need-returns-then-listed
 unfolding bytes
 stored c =
-    let at = entry_bytes * c.before.args.n in
+    let at = entry_bytes * c.args.n in
     let two : at + 2 ≡ suc (suc at) = omega arith in
-    rw c.if1.true (record { stored = rw (add-one at, two) refl; count = refl })
+    rw c.if-listed.true (record { stored = rw (add-one at, two) refl; count = refl })
 
-nothing : tie.Need-returns-2
+nothing : tie.Need-returns
 unfolding bytes
-nothing c = rw c.if1.false (record { stored = refl; count = omega arith })
+nothing c = rw c.if-listed.false (record { stored = refl; count = omega arith })
 
 pub put_spec : {M : Type 1} → statement M
 put_spec =

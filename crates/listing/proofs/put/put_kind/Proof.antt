@@ -18,7 +18,7 @@ module _ (s : tie.Start) where
   abbrev own : List Entry
   own = listed_if (marked s.args.own s.args.kind) s.args.i s.args.kind no_second
 
-pairs_room : tie.Need-put-pairs-requires
+pairs_room : tie.Need-put_pairs-m-requires
 pairs_room c κs =
     let s = c.before.before in
     (room_first (length s.args.out.now) s.args.n (each s) (own s) s.requires.0, s.requires.1, s.requires.2, s.requires.3)
@@ -27,12 +27,12 @@ own_room : tie.Need-put-requires
 own_room c κs =
     let p = c.before.before.before.before in
     let s = p.before.before.before in
-    rw c.marked.ensures (room_second p.put-pairs.ensures (own s) s.requires.0)
+    rw c.marked.ensures (room_second p.put_pairs-m.ensures (own s) s.requires.0)
 
 both : tie.Need-returns
 both c =
     let m = c.before.before.before in
-    put_then m.before.before.before.before.put-pairs.ensures (rw m.marked.ensures at c.before.before.put.ensures)
+    put_then m.put_pairs-m.ensures (rw m.marked.ensures at c.put.ensures)
 
 pub put_kind_spec : {M : Type 1} → statement M
 put_kind_spec = tie.close (tie.spec pairs_room (λ c κs. search rules) own_room (λ c. put_long (both c)) both)

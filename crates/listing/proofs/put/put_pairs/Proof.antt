@@ -15,45 +15,45 @@ use Rattle.listing.proofs.put.put_pairs.Tie as tie
 abbrev at : List ℕ → ℕ → ℕ → ℕ → List Entry
 at pairs i kind k = listed_if (marked (mark_at pairs i k) kind) i kind k
 
-abbrev I : tie.invariant-loop
+abbrev I : tie.invariant-loop-j
 I out₀ n i kind pairs things start m₀ j₀ out m j =
     (j ≤ things) × Going out₀ n out m (pairs_marked pairs things i kind) (from (at pairs i kind) things j)
 
-abbrev μ : tie.decreases-loop
+abbrev μ : tie.decreases-loop-j
 μ out₀ n i kind pairs things start m₀ j₀ out m j = things - j
 
-starts : tie.Need-loop-init I μ
-starts c = (omega arith, rw (sub-zero c.before.args.things) (going_start _ _ _))
+starts : tie.Need-loop-j-init I μ
+starts c = (omega arith, rw (sub-zero c.args.things) (going_start _ _ _))
 
-room : tie.Need-put-requires I μ
+room : tie.Need-put-m-requires I μ
 room c κs =
     let l = c.before.before.before.before in
     let s = l.before.before in
     let a = s.args in
     rw c.marked.ensures
-    (from_room (at a.pairs.now a.i a.kind) a.things l.loop.j c.before.before.before.loop-test.true l.loop.invariant.1 s.requires.0)
+    (from_room (at a.pairs.now a.i a.kind) a.things l.loop-j.j c.loop-j-test.true l.loop-j.invariant.1 s.requires.0)
 
-again : tie.Need-loop-preserved I μ
+again : tie.Need-loop-j-preserved I μ
 again c =
     let p = c.before.before in
     let k = p.before.before.before.before in
     let l = k.before in
-    let a = l.before.before.args in
-    let h = k.loop-test.true in (
+    let a = l.args in
+    let h = k.loop-j-test.true in (
       omega arith,
-      from_next (at a.pairs.now a.i a.kind) a.things l.loop.j h l.loop.invariant.1 (rw p.before.marked.ensures at p.put.ensures),
+      from_next (at a.pairs.now a.i a.kind) a.things l.loop-j.j h l.loop-j.invariant.1 (rw p.marked.ensures at p.put-m.ensures),
     )
 
 returns : tie.Need-returns I μ
 returns c =
     let l = c.before in
-    let a = l.before.before.args in
-    from_end (at a.pairs.now a.i a.kind) a.things l.loop.j (let h = c.loop-test.false in omega arith) l.loop.invariant.1
+    let a = l.args in
+    from_end (at a.pairs.now a.i a.kind) a.things l.loop-j.j (let h = c.loop-j-test.false in omega arith) l.loop-j.invariant.1
 
 pub put_pairs_spec : {M : Type 1} → statement M
 put_pairs_spec =
     tie.close
     (tie.spec I μ (λ c. search rules) starts (λ c. search rules) (λ c. search rules) (λ c. search rules) (λ c. search rules)
     (λ c κs. search rules) room (λ c. search rules) (λ c. search rules) again
-    (λ c. put_long c.before.loop.invariant.1.put)
+    (λ c. put_long c.loop-j.invariant.1.put)
     returns)
