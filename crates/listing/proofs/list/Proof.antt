@@ -63,8 +63,8 @@ starts c =
 row_asked : tie.Need-of_row-alone-requires I μ
 row_asked c κs =
     let k = c.before.before.before.before.before.before.before.before in
-    let r = k.before.before.before.before in
-    good_alone (t (s r)) (size (s r)) (held (s r)) (well (s r)) _ (rooted r) k.loop-i.i k.loop-i-test.true (parents (s r))
+    let r = k.before.before.before in
+    good_alone (t (s r)) (size (s r)) (held (s r)) (well (s r)) _ (rooted r) k.loop-i.i c.loop-i-test.true (parents (s r))
 
 -- row i, and the kinds of it alone that were found
 module _ (c : tie.After-of_row-alone I μ) where
@@ -79,7 +79,7 @@ module _ (c : tie.After-of_row-alone I μ) where
 
 pairs_asked : tie.Need-of_pairs-requires I μ
 pairs_asked c κs =
-    let o = c.before.before.before.before.before.before in
+    let o = c.before.before.before.before.before in
     let a = s (r o) in
     record { tree = parents a; each = good_rows (t a) (size a) (held a) (well a); few = (held a).rows; row = h o }
 
@@ -102,7 +102,7 @@ module _ (c : tie.After-of_pairs I μ) where
 
 again : tie.Need-loop-i-preserved I μ
 again c =
-    let p = c.before.before.before in
+    let p = c.before.before in
     let k = h (o p) in
     (omega arith, rw c.count_row.ensures (next p))
 
@@ -151,7 +151,7 @@ module _ (c : tie.Else-out-n I μ) where
 
 rows_asked : tie.Need-put_block-m-requires I μ
 rows_asked c κs =
-    let k = c.before.before.before.before in
+    let k = c.before.before.before in
     let few = (held (b (f k))).rows in
     let m = room_first (length (b (f k)).args.out.now) 0 (rows k) (filters k) (room k) in
     (subst (Room (length (b (f k)).args.out.now) 0) (sym (done (f k)).rows) m, record { few = few; among = omega arith })
@@ -166,7 +166,7 @@ module _ (c : tie.After-put_block-m I μ) where
 
 filters_asked : tie.Need-put_block-requires I μ
 filters_asked c κs =
-    let p = c.before.before.before.before.before.before in
+    let p = c.before.before.before.before.before in
     let few = (held (b (f (e p)))).filters in
     (rw (done (f (e p))).filters (room_second (put_rows p) (filters (e p)) (room (e p))), record { few = omega arith; among = omega arith })
 
@@ -174,7 +174,7 @@ filters_asked c κs =
 whole : (c : tie.After-put_block I μ) → let k = e c.before.before.before.before.before.before in
     Put (b (f k)).args.out.now 0 c.put_block.new.out c.put_block.result (rows k ++ filters k)
 whole c =
-    let p = c.before.before.before.before.before.before.before in
+    let p = c.before.before.before.before.before.before in
     put_then (put_rows p) (rw (done (f (e p))).filters at c.put_block.ensures)
 
 returns : tie.Need-returns I μ
@@ -187,18 +187,18 @@ pub list_spec : {M : Type 1} → statement M
 list_spec =
     tie.close
     (tie.spec I μ
-    (λ c κs. let b = c.before.before.before.before.before in (parents b, (held b).rows, ends (t b) (size b) (held b) (well b)))
+    (λ c κs. let b = c.before.before.before.before in (parents b, (held b).rows, ends (t b) (size b) (held b) (well b)))
     starts row_asked
     (λ c. let k = h c in let n = (held (s (r c))).rows in omega arith)
     (λ c. let k = h c in let n = (held (s (r c))).rows in omega arith)
     pairs_asked
-    (λ c κs. let p = c.before.before in let f = few p in (h (o p), (held (a p)).rows, omega arith))
-    (λ c. let f = few c.before.before.before in let e = c.count_row.ensures in omega arith)
-    (λ c. let f = few c.before.before.before in let e = c.count_row.ensures in omega arith)
-    (λ c. let k = h (o c.before.before.before) in let n = (held (a c.before.before.before)).rows in omega arith)
-    (λ c. let k = h (o c.before.before.before) in omega arith)
+    (λ c κs. let p = c.before in let f = few p in (h (o p), (held (a p)).rows, omega arith))
+    (λ c. let f = few c.before.before in let e = c.count_row.ensures in omega arith)
+    (λ c. let f = few c.before.before in let e = c.count_row.ensures in omega arith)
+    (λ c. let k = h (o c.before.before) in let n = (held (a c.before.before)).rows in omega arith)
+    (λ c. let k = h (o c.before.before) in omega arith)
     again
-    (λ c κs. let l = c.before.before.before.before.before.before in ((held (s l.before.before.before)).filters, l.loop-i.invariant.1.pairs_long))
+    (λ c κs. let l = c.before.before.before.before.before.before in ((held (s l.before.before)).filters, c.loop-i.invariant.1.pairs_long))
     (λ c. let m = most c in omega arith)
     (λ c. let m = most c in omega arith)
     (λ c. let m = most c in omega arith)
