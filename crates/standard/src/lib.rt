@@ -4,7 +4,7 @@
 ghost use Rattle.std.specs.Prelude.{◌≡◌, ◌<◌, ◌≤◌, length, take, IfSome};
 
 use std::io;
-use std::io::{Cursor, Print, Read, Write};
+use std::io::{Cursor, Read, Write};
 
 // What was read: how many bytes, and whether a read failed.
 #[derive(Clone, Copy)]
@@ -84,8 +84,7 @@ fn write_at(rt: &HostRuntime, text: &[u8], n: usize) -> Option<usize>
     requires { n < length text.now }
     ensures { IfSome result (λ m. (n < m) × (m ≤ length text.now)) }
 {
-    let mut output = rt.stdout();
-    let why = match Write::write(&mut output, &text[n..]) {
+    let why = match rt.write_some(&text[n..]) {
         Ok(0) => io::Error::from(io::ErrorKind::WriteZero),
         Ok(count) => return Some(n + count),
         Err(why) => why,
