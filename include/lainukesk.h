@@ -1,4 +1,4 @@
-/* The analyser of protection policies, for C. Link libanalyser.a, which `rt staticlib analyser` writes to target/staticlib. */
+/* The analyser of protection policies, for C. Link libanalyser.a, which `bash tests/build analyser_c` puts into target/staticlib. */
 #ifndef LAINUKESK_H
 #define LAINUKESK_H
 

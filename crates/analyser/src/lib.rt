@@ -147,15 +147,6 @@ pub fn packed_count(answer: Counted) -> u64
     }
 }
 
-// List for C, which writes what `list` writes: the count, or the refusal as one number. The layout of the arguments is in include/lainukesk.h.
-#[unsafe(no_mangle)]
-pub extern "C" fn lainukesk_list(text: &[u8], out: &mut [u8]) -> u64
-    ensures answers { result ≡ packed (list_of (parse text.now) out.old) }
-    ensures writes { out.new ≡ list_written (parse text.now) out.old }
-{
-    packed_count(list(text, out))
-}
-
 // Strike: writes the text without its dead rows' lines into out from its start. Returns its length. The rest of out is unchanged, and all of
 // it where there is a refusal.
 pub fn strike(text: &[u8], out: &mut [u8]) -> Counted

@@ -11,15 +11,20 @@
 // - Winner's answer for each probe: the row's two digits, or none
 // - Join's answer for each couple: the length's two digits, or the refusal; and all of the output, which had a . at each place before the call
 // - Prefixes' answer for each side: the count's two digits, or the refusal; and the digits of all of the output, with a . at each place before the call
-ghost use Rattle.io.specs.Counts.{IsPrefixLen};
+#![tactic(auto)]
+
+ghost use Rattle.std.specs.Prelude.{◌≡◌, ◌≤◌, length, take, IfSome};
 
 use analyser::{Checked, Counted, Winner};
 use calls::Witness;
-use libc::STDOUT_FILENO;
 use policy::number::Number;
 use policy::selector::Packet;
 use printing::limits::PRINTED;
 use relations::group::Probe;
+use std::env::{Env, FillError};
+use std::fs::File;
+use std::io::Read;
+use std::{fs, io};
 
 // How many bytes a field's number has, and a probe, a couple and a side have digits.
 const ADDRESS: usize = 4;
@@ -42,6 +47,12 @@ const JOINED: usize = 255;
 
 const PREFIXES: usize = 512;
 
+// Room for a name, and for a file of questions.
+const BUFFER: usize = 4096;
+
+// Room for a table's text.
+const LARGE_BUFFER: usize = 65536;
+
 // A call that is asked of each row.
 #[derive(Clone, Copy)]
 enum RowCall {
@@ -58,116 +69,117 @@ enum Call {
     Prefixes,
 }
 
-fn put_text(text: &[u8]) {
-    io::write_all(STDOUT_FILENO, text);
+// Writes the text to standard output. A write that fails is passed over.
+fn put_text(rt: &HostRuntime, text: &[u8]) {
+    let _ = rt.write_all(text);
 }
 
 // A byte's two digits.
-fn put(b: u8) {
+fn put(rt: &HostRuntime, b: u8) {
     let mut digits = [0u8; 2];
     hexlines::put(&[b], &mut digits, 0);
-    put_text(&digits);
+    put_text(rt, &digits);
 }
 
 // A count or a row's number, at most 128.
-fn put_count(n: usize) {
-    put((n % 256) as u8);
+fn put_count(rt: &HostRuntime, n: usize) {
+    put(rt, (n % 256) as u8);
 }
 
 // The digits of a field's number, of `bytes` bytes.
-fn put_number(n: Number, bytes: usize) {
+fn put_number(rt: &HostRuntime, n: Number, bytes: usize) {
     let mut left = bytes;
     while 0 < left {
         left -= 1;
-        put(n.byte(left));
+        put(rt, n.byte(left));
     }
 }
 
-fn put_number_and_line(number: u8, line: u8) {
-    put_text(b"!");
-    put(number);
-    put(line);
+fn put_number_and_line(rt: &HostRuntime, number: u8, line: u8) {
+    put_text(rt, b"!");
+    put(rt, number);
+    put(rt, line);
 }
 
-fn put_refusal(number: u8, line: u8) {
-    put_number_and_line(number, line);
-    put_text(b"\n");
+fn put_refusal(rt: &HostRuntime, number: u8, line: u8) {
+    put_number_and_line(rt, number, line);
+    put_text(rt, b"\n");
 }
 
 // Prints the counts. Returns how many rows there are: 0 of a text that is refused.
-fn put_check(text: &[u8]) -> usize {
+fn put_check(rt: &HostRuntime, text: &[u8]) -> usize {
     match analyser::check(text) {
         Checked::Counts {
             entities,
             filters,
             rows,
         } => {
-            put_count(entities);
-            put_count(filters);
-            put_count(rows);
-            put_text(b"\n");
+            put_count(rt, entities);
+            put_count(rt, filters);
+            put_count(rt, rows);
+            put_text(rt, b"\n");
             rows
         }
         Checked::Refused { number, line } => {
-            put_refusal(number, line);
+            put_refusal(rt, number, line);
             0
         }
     }
 }
 
-fn put_line(text: &[u8], k: usize) {
-    put_text(analyser::line(text, k));
-    put_text(b"\n");
+fn put_line(rt: &HostRuntime, text: &[u8], k: usize) {
+    put_text(rt, analyser::line(text, k));
+    put_text(rt, b"\n");
 }
 
-fn put_list(text: &[u8]) {
+fn put_list(rt: &HostRuntime, text: &[u8]) {
     let mut out = [0u8; PRINTED];
     let n = printing::put_list(text, &mut out);
-    put_text(&out[..n]);
+    put_text(rt, &out[..n]);
 }
 
-fn put_packet(p: Packet) {
-    put_number(p.source_address, ADDRESS);
-    put_number(p.destination_address, ADDRESS);
-    put_number(p.source_port, PORT);
-    put_number(p.destination_port, PORT);
-    put_number(p.protocol, PROTOCOL);
-    put_text(b"\n");
+fn put_packet(rt: &HostRuntime, p: Packet) {
+    put_number(rt, p.source_address, ADDRESS);
+    put_number(rt, p.destination_address, ADDRESS);
+    put_number(rt, p.source_port, PORT);
+    put_number(rt, p.destination_port, PORT);
+    put_number(rt, p.protocol, PROTOCOL);
+    put_text(rt, b"\n");
 }
 
 // Witness's answer, or Mesh's.
-fn put_witness(answer: Witness) {
+fn put_witness(rt: &HostRuntime, answer: Witness) {
     match answer {
-        Witness::Dead => put_text(b"dead\n"),
-        Witness::Packet(p) => put_packet(p),
-        Witness::Refused { number, line } => put_refusal(number, line),
+        Witness::Dead => put_text(rt, b"dead\n"),
+        Witness::Packet(p) => put_packet(rt, p),
+        Witness::Refused { number, line } => put_refusal(rt, number, line),
     }
 }
 
 // The call's answer for row k.
-fn put_row(text: &[u8], k: usize, call: RowCall) {
+fn put_row(rt: &HostRuntime, text: &[u8], k: usize, call: RowCall) {
     match call {
-        RowCall::Line => put_line(text, k),
-        RowCall::Witness => put_witness(analyser::witness_of(text, k)),
-        RowCall::Mesh => put_witness(mesh_call::mesh_of(text, k)),
+        RowCall::Line => put_line(rt, text, k),
+        RowCall::Witness => put_witness(rt, analyser::witness_of(text, k)),
+        RowCall::Mesh => put_witness(rt, mesh_call::mesh_of(text, k)),
     }
 }
 
 // The same for each row, and for one number more.
-fn put_rows(text: &[u8], rows: usize, call: RowCall) {
+fn put_rows(rt: &HostRuntime, text: &[u8], rows: usize, call: RowCall) {
     for k in 0..=rows {
-        put_row(text, k, call);
+        put_row(rt, text, k, call);
     }
 }
 
-fn put_strike(text: &[u8]) {
-    let mut out = io::large_buffer();
+fn put_strike(rt: &HostRuntime, text: &[u8]) {
+    let mut out = [0u8; LARGE_BUFFER];
     let n = printing::put_struck(text, &mut out);
-    put_text(&out[..n]);
+    put_text(rt, &out[..n]);
 }
 
 // Winner's answer, if the line says a probe, and the row that names the group.
-fn put_winner(text: &[u8], line: &[u8]) {
+fn put_winner(rt: &HostRuntime, text: &[u8], line: &[u8]) {
     if line.len() != PROBE_DIGITS {
         return;
     }
@@ -185,38 +197,39 @@ fn put_winner(text: &[u8], line: &[u8]) {
     };
     match analyser::winner_of(text, hexlines::u8_at(line, 0) as usize, probe) {
         Winner::Row(i) => {
-            put_count(i);
-            put_text(b"\n");
+            put_count(rt, i);
+            put_text(rt, b"\n");
         }
-        Winner::Nobody => put_text(b"none\n"),
-        Winner::Refused { number, line } => put_refusal(number, line),
+        Winner::Nobody => put_text(rt, b"none\n"),
+        Winner::Refused { number, line } => put_refusal(rt, number, line),
     }
 }
 
 // The count's digits, or the refusal; and a space.
-fn put_counted(answer: Counted) {
+fn put_counted(rt: &HostRuntime, answer: Counted) {
     match answer {
-        Counted::Count(n) => put_count(n),
-        Counted::Refused { number, line } => put_number_and_line(number, line),
+        Counted::Count(n) => put_count(rt, n),
+        Counted::Refused { number, line } => put_number_and_line(rt, number, line),
     }
-    put_text(b" ");
+    put_text(rt, b" ");
 }
 
 // Join's answer for two rows, and the output.
-fn put_joined(text: &[u8], first: usize, second: usize, out: &mut [u8]) {
-    put_counted(analyser::join(text, first, second, out));
-    put_text(out);
-    put_text(b"\n");
+fn put_joined(rt: &HostRuntime, text: &[u8], first: usize, second: usize, out: &mut [u8]) {
+    put_counted(rt, analyser::join(text, first, second, out));
+    put_text(rt, out);
+    put_text(rt, b"\n");
 }
 
 // The same, if the line says a couple.
-fn put_join(text: &[u8], line: &[u8]) {
+fn put_join(rt: &HostRuntime, text: &[u8], line: &[u8]) {
     if line.len() != COUPLE_DIGITS {
         return;
     }
     let length = hexlines::u8_at(line, 2) as usize;
     let mut out = [b'.'; JOINED];
     put_joined(
+        rt,
         text,
         hexlines::u8_at(line, 0) as usize,
         hexlines::u8_at(line, 1) as usize,
@@ -225,21 +238,21 @@ fn put_join(text: &[u8], line: &[u8]) {
 }
 
 // The digits of all bytes.
-fn put_digits(bytes: &[u8]) {
+fn put_digits(rt: &HostRuntime, bytes: &[u8]) {
     for k in 0..bytes.len() {
-        put(bytes[k]);
+        put(rt, bytes[k]);
     }
 }
 
 // Prefixes' answer for a row's side, and the output.
-fn put_prefixes(text: &[u8], row: usize, side: u8, out: &mut [u8]) {
-    put_counted(analyser::prefixes(text, row, side, out));
-    put_digits(out);
-    put_text(b"\n");
+fn put_prefixes(rt: &HostRuntime, text: &[u8], row: usize, side: u8, out: &mut [u8]) {
+    put_counted(rt, analyser::prefixes(text, row, side, out));
+    put_digits(rt, out);
+    put_text(rt, b"\n");
 }
 
 // The same, if the line says a side.
-fn put_side(text: &[u8], line: &[u8]) {
+fn put_side(rt: &HostRuntime, text: &[u8], line: &[u8]) {
     if line.len() != SIDE_DIGITS {
         return;
     }
@@ -249,6 +262,7 @@ fn put_side(text: &[u8], line: &[u8]) {
     }
     let mut out = [b'.'; PREFIXES];
     put_prefixes(
+        rt,
         text,
         hexlines::u8_at(line, 0) as usize,
         hexlines::u8_at(line, 1),
@@ -257,85 +271,123 @@ fn put_side(text: &[u8], line: &[u8]) {
 }
 
 // The call's answer to the question, if it is one for that call.
-fn put_question(text: &[u8], line: &[u8], call: Call) {
+fn put_question(rt: &HostRuntime, text: &[u8], line: &[u8], call: Call) {
     match call {
-        Call::Winner => put_winner(text, line),
-        Call::Join => put_join(text, line),
-        Call::Prefixes => put_side(text, line),
+        Call::Winner => put_winner(rt, text, line),
+        Call::Join => put_join(rt, text, line),
+        Call::Prefixes => put_side(rt, text, line),
     }
 }
 
 // The same for each line.
-fn put_questions(text: &[u8], questions: &[u8], call: Call) {
+fn put_questions(rt: &HostRuntime, text: &[u8], questions: &[u8], call: Call) {
     for k in 0..questions.len() / QUESTION {
-        put_question(text, reader::lines::nth_line(questions, k), call);
+        put_question(rt, text, reader::lines::nth_line(questions, k), call);
     }
 }
 
-fn answer(text: &[u8], questions: &[u8]) {
-    let rows = put_check(text);
-    put_rows(text, rows, RowCall::Line);
-    put_list(text);
-    put_rows(text, rows, RowCall::Witness);
-    put_rows(text, rows, RowCall::Mesh);
-    put_strike(text);
-    put_questions(text, questions, Call::Winner);
-    put_questions(text, questions, Call::Join);
-    put_questions(text, questions, Call::Prefixes);
+fn answer(rt: &HostRuntime, text: &[u8], questions: &[u8]) {
+    let rows = put_check(rt, text);
+    put_rows(rt, text, rows, RowCall::Line);
+    put_list(rt, text);
+    put_rows(rt, text, rows, RowCall::Witness);
+    put_rows(rt, text, rows, RowCall::Mesh);
+    put_strike(rt, text);
+    put_questions(rt, text, questions, Call::Winner);
+    put_questions(rt, text, questions, Call::Join);
+    put_questions(rt, text, questions, Call::Prefixes);
 }
 
-// The file's descriptor; below 0, with a message, if it cannot be opened.
-fn open(path: &[u8]) -> i32 {
-    let fd = os::open_read(path);
-    if fd < 0 {
-        os::fail(path);
+// The file that is open for reading; none, with a message, if it can't be opened.
+fn open(rt: &HostRuntime, path: &[u8]) -> Option<File> {
+    let opened = match str::from_utf8(path) {
+        Ok(name) => fs::open(rt, name),
+        Err(_) => Err(io::Error::from(io::ErrorKind::InvalidFilename)),
+    };
+    match opened {
+        Ok(file) => Some(file),
+        Err(why) => {
+            standard::tell(rt, path, why);
+            None
+        }
     }
-    fd
 }
 
-// Reads the file to its end, or until buffer is full, and closes it. Returns how many bytes were read.
-fn read(fd: i32, buffer: &mut [u8]) -> usize
-    ensures { IsPrefixLen result buffer.new }
+// Reads once, into buffer from place n on. Returns the place after what was read: n itself at the file's end, or if the read fails.
+fn read_at(file: &mut File, buffer: &mut [u8], n: usize) -> usize
+    requires { n ≤ length buffer.old }
+    ensures low { n ≤ result }
+    ensures high { result ≤ length buffer.old }
 {
-    let n = io::read_full(fd, buffer);
-    libc::close(fd);
+    match file.read(&mut buffer[n..]) {
+        Ok(count) => n + count,
+        Err(_) => n,
+    }
+}
+
+// Reads the file to its end, or until buffer is full or a read fails, and closes it. Returns how many bytes were read.
+fn read(mut file: File, buffer: &mut [u8]) -> usize
+    ensures fits { result ≤ length buffer.new }
+    ensures part { result ≡ length (take result buffer.new) }
+{
+    let mut n = 0;
+    while n < buffer.len() {
+        let next = read_at(&mut file, buffer, n);
+        if next == n {
+            return n;
+        }
+        n = next;
+    }
     n
 }
 
-fn answer_files(text_path: &[u8], questions_path: &[u8]) {
-    let text_file = open(text_path);
-    if text_file < 0 {
+fn answer_files(rt: &HostRuntime, text_path: &[u8], questions_path: &[u8]) {
+    let Some(text_file) = open(rt, text_path) else {
         return;
-    }
-    let questions_file = open(questions_path);
-    if questions_file < 0 {
-        libc::close(text_file);
+    };
+    let Some(questions_file) = open(rt, questions_path) else {
         return;
-    }
-    let mut text = io::large_buffer();
+    };
+    let mut text = [0u8; LARGE_BUFFER];
     let n = read(text_file, &mut text);
-    let mut questions = io::buffer();
+    let mut questions = [0u8; BUFFER];
     let m = read(questions_file, &mut questions);
-    put_text(text_path);
-    put_text(b" ");
-    answer(&text[..n], &questions[..m]);
+    put_text(rt, text_path);
+    put_text(rt, b" ");
+    answer(rt, &text[..n], &questions[..m]);
 }
 
-fn answer_arguments(i: usize, j: usize) {
-    let mut text_path = io::buffer();
-    let n = os::arg(i, &mut text_path);
-    let mut questions_path = io::buffer();
-    let m = os::arg(j, &mut questions_path);
-    answer_files(&text_path[..n], &questions_path[..m]);
+// Puts argument i at the start of buffer. Returns its length, 0 if it is longer than buffer; none if there is no such argument.
+fn argument(rt: &HostRuntime, i: usize, buffer: &mut [u8]) -> Option<usize>
+    ensures fits { IfSome result (λ n. n ≤ length buffer.new) }
+    ensures part { IfSome result (λ n. n ≡ length (take n buffer.new)) }
+{
+    match rt.arg(i, buffer) {
+        Ok(n) => Some(n),
+        Err(FillError::TooLong) => Some(0),
+        Err(FillError::NotPresent) => None,
+    }
 }
 
-fn main() {
-    let n = os::arg_count();
-    let mut left = n;
-    let mut i = 1;
-    while 2 < left {
-        answer_arguments(i, i + 1);
-        i += 2;
-        left -= 2;
+// Answers for the texts that arguments i and j name. Returns whether there are these arguments.
+fn answer_arguments(rt: &HostRuntime, i: usize, j: usize) -> bool {
+    let mut text_path = [0u8; BUFFER];
+    let Some(n) = argument(rt, i, &mut text_path) else {
+        return false;
+    };
+    let mut questions_path = [0u8; BUFFER];
+    let Some(m) = argument(rt, j, &mut questions_path) else {
+        return false;
+    };
+    answer_files(rt, &text_path[..n], &questions_path[..m]);
+    true
+}
+
+fn main(rt: HostRuntime) {
+    for k in 0..usize::MAX / 2 {
+        let i = 2 * k + 1;
+        if !answer_arguments(&rt, i, i + 1) {
+            return;
+        }
     }
 }

@@ -17,7 +17,8 @@ fn put(text: &[u8], out: &mut [u8]) -> usize
     if out.len() < text.len() {
         return 0;
     }
-    bytes::copy(text, out)
+    out[..text.len()].copy_from_slice(text);
+    text.len()
 }
 
 // Writes the line that a refusal prints.
