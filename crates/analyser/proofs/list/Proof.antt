@@ -8,18 +8,18 @@ use Rattle.analyser.proofs.list.Statement.{statement}
 use Rattle.analyser.proofs.list.Tie as tie
 
 -- the text is accepted
-taken : (c : tie.Else1) → Accepted c.before.before.before.before.before.args.text.now c.before.before.read.result
-taken c = let r = c.before.before.read in accepted _ _ r.type-inv r.ensures c.if1.false
+taken : (c : tie.Else-r-ne0) → Accepted c.args.text.now c.read-r.result
+taken c = let r = c.read-r in accepted _ _ r.type_inv r.ensures c.if-r-ne0.false
 
 pub list_spec : {M : Type 1} → statement M
 list_spec =
     tie.close
     (tie.spec
     (λ c κs. search rules)
-    (λ c. rw (text_refused c.before.before.read.ensures c.if1.true) (turned (list_refused_text _ _ _)))
-    (λ c κs. let a = taken c.before in (a.held, a.well))
+    (λ c. rw (text_refused c.read-r.ensures c.if-r-ne0.true) (turned (list_refused_text _ _ _)))
+    (λ c κs. let a = taken c.before.before in (a.held, a.well))
     (λ c κs. search rules)
     (λ c. search rules)
     (λ c. let w = c.before.before.before in
-    let d = list_writes _ _ _ (taken w.before.before).read _ _ w.list.ensures in
-    (c.count-written.ensures ∙ d.0, d.1)))
+    let d = list_writes _ _ _ (taken w.before.before.before).read _ _ w.list.ensures in
+    (c.count_written.ensures ∙ d.0, d.1)))

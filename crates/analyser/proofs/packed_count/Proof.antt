@@ -7,15 +7,14 @@ use Rattle.analyser.specs.Views.{count_answer}
 use Rattle.analyser.proofs.packed_count.Statement.{statement}
 use Rattle.analyser.proofs.packed_count.Tie as tie
 
-counted : tie.Need-returns
-counted c = sym (ap (λ r. packed (count_answer r)) c.before.answer.given.1)
+counted : tie.Need-returns-in-Count
+counted c = sym (ap (λ r. packed (count_answer r)) c.in-Count.is)
 
-refused : tie.Need-returns-2
+refused : tie.Need-returns-in-Refused
 refused c =
-    let told = c.before.before.answer2.given in
-    let whole : c.packed-refusal.result ≡ packed (refused_by told.0.0 told.0.1.0) = c.packed-refusal.ensures in
-    whole ∙ sym (ap (λ r. packed (count_answer r)) told.1)
+    let whole : c.packed_refusal.result ≡ packed (refused_by c.in-Refused.number c.in-Refused.line) = c.packed_refusal.ensures in
+    whole ∙ sym (ap (λ r. packed (count_answer r)) c.in-Refused.is)
 
 pub packed_count_spec : {M : Type 1} → statement M
 packed_count_spec =
-    tie.close (tie.spec (λ c. c.match.keys1) (λ c. c.match.keys2) (λ c κs. search rules) counted refused)
+    tie.close (tie.spec (λ c. search rules) (λ c. search rules) (λ c κs. search rules) counted refused)

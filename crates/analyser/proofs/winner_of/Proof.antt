@@ -25,15 +25,15 @@ use Rattle.analyser.proofs.winner_of.Statement.{statement}
 use Rattle.analyser.proofs.winner_of.Tie as tie
 
 -- the text is accepted
-module _ (c : tie.Else1) where
+module _ (c : tie.Else-r-ne0) where
   abbrev s : tie.Start
   s = c.before.before.before
 
   abbrev t : TableStruct
-  t = c.before.read.result.table
+  t = c.read-r.result.table
 
-  taken : Accepted s.args.text.now c.before.read.result
-  taken = let r = c.before.read in accepted _ _ r.type-inv r.ensures c.if1.false
+  taken : Accepted s.args.text.now c.read-r.result
+  taken = let r = c.read-r in accepted _ _ r.type_inv r.ensures c.if-r-ne0.false
 
   -- whether the two entities are there
   ends : Decides (ltb s.args.p.source t.entities && ltb s.args.p.destination t.entities)
@@ -41,33 +41,33 @@ module _ (c : tie.Else1) where
   ends = rw taken.counted.entities (decides_and _ _ (decides_ltb _ _) (decides_ltb _ _))
 
 -- and has the row
-module _ (c : tie.Else2) where
+module _ (c : tie.Else-r-k) where
   row_there : (s c.before).args.k < length (table_of (t c.before)).rows
-  row_there = let n = (taken c.before).counted.rows in let h = c.if2.false in omega arith
+  row_there = let n = (taken c.before).counted.rows in let h = c.if-r-k.false in omega arith
 
 -- the two entities are there as well
-module _ (c : tie.Else3) where
-  abbrev i : tie.Else1
+module _ (c : tie.Else-not-ends) where
+  abbrev i : tie.Else-r-ne0
   i = c.before.before.before.before
 
   ends_there : IsEntity (table_of (t i)) (s i).args.p.source × IsEntity (table_of (t i)) (s i).args.p.destination
-  ends_there = (ends i).yes (not-false _ c.if3.false)
+  ends_there = (ends i).yes c.if-not-ends.false
 
 asked : tie.Need-winner-requires
 asked c κs =
-    let e = c.before.before.before.before in
+    let e = c.before.before.before in
     let k = taken (i e) in
     let n = k.well.counts.few_entities in
     let m = k.well.counts.few_rows in
     let a = (ends_there e).0 in
     let b = (ends_there e).1 in
     let r = k.counted.rows in
-    (record { parents = lent_parents (t (i e)) k.sized k.held k.well; source = omega arith; destination = omega arith }, e.before.before.before.if2.false, omega arith)
+    (record { parents = lent_parents (t (i e)) k.sized k.held k.well; source = omega arith; destination = omega arith }, c.if-r-k.false, omega arith)
 
-answer : (c : tie.After-winner) → let q = (s (i c.before.before.before.before.before)).args in
+answer : (c : tie.After-winner) → let q = (s (i c.before.before.before.before)).args in
     returned (outcome_of c.winner.result) ≡ winner_of (parse q.text.now) q.k q.p.source q.p.destination (packet_of q.p.packet)
 answer c =
-    let e = c.before.before.before.before.before in
+    let e = c.before.before.before.before in
     let v = t (i e) in
     let q = (s (i e)).args in
     let a = taken (i e) in
@@ -83,14 +83,14 @@ winner_of_spec =
     tie.close
     (tie.spec
     (λ c κs. search rules)
-    (λ c. rw (text_refused c.before.read.ensures c.if1.true) (sym (winner_refused_text _ _ _ _ _ _)))
-    (λ c. let a = taken c.before in sym (winner_no_row _ _ a.read _ _ _ _ (omega (arith, a.counted.rows, c.if2.true))))
+    (λ c. rw (text_refused c.read-r.ensures c.if-r-ne0.true) (sym (winner_refused_text _ _ _ _ _ _)))
+    (λ c. let a = taken c.before in sym (winner_no_row _ _ a.read _ _ _ _ (omega (arith, a.counted.rows, c.if-r-k.true))))
     (λ c. search rules)
     (λ c. search rules)
     (λ c. let r = c.before.before.before in
-    sym (winner_no_entity _ _ (taken r.before).read _ _ _ _ (row_there r) ((ends r.before).no (not-true _ c.if3.true))))
+    sym (winner_no_entity _ _ (taken r.before).read _ _ _ _ (row_there r) ((ends r.before).no c.if-not-ends.true)))
     asked
-    (λ c. c.match.keys1)
-    (λ c. c.match.keys2)
-    (λ c. sym (ap (λ o. returned (outcome_of o)) c.before.i.given.1) ∙ answer c.before.before.before)
-    (λ c. sym (ap (λ o. returned (outcome_of o)) c.enum_told.given.1) ∙ answer c.before.before))
+    (λ c. search rules)
+    (λ c. search rules)
+    (λ c. sym (ap (λ o. returned (outcome_of o)) c.in-Won.is) ∙ answer c.before)
+    (λ c. sym (ap (λ o. returned (outcome_of o)) c.in-Nobody.is) ∙ answer c.before))

@@ -13,25 +13,25 @@ use Rattle.analyser.proofs.witness_of.Statement.{statement}
 use Rattle.analyser.proofs.witness_of.Tie as tie
 
 -- the text is accepted
-taken : (c : tie.Else1) → Accepted c.before.before.before.args.text.now c.before.read.result
-taken c = let r = c.before.read in accepted _ _ r.type-inv r.ensures c.if1.false
+taken : (c : tie.Else-r-ne0) → Accepted c.args.text.now c.read-r.result
+taken c = let r = c.read-r in accepted _ _ r.type_inv r.ensures c.if-r-ne0.false
 
-told : tie.Need-returns-3
+told : tie.Need-returns
 told c =
     let j = c.before in
     let i = j.before.before.before.before.before in
-    let a = taken i.before in
+    let a = taken i in
     c.tell.ensures
-    ∙ ap returned (j.judge.ensures ∙ lent_verdict i.before.before.read.result.table a.sized a.held _ i.if2.false)
-    ∙ sym (witness_verdict _ _ a.read _ (omega (arith, a.counted.rows, i.if2.false)))
+    ∙ ap returned (j.judge.ensures ∙ lent_verdict i.read-r.result.table a.sized a.held _ c.if-k-r.false)
+    ∙ sym (witness_verdict _ _ a.read _ (omega (arith, a.counted.rows, c.if-k-r.false)))
 
 pub witness_of_spec : {M : Type 1} → statement M
 witness_of_spec =
     tie.close
     (tie.spec
     (λ c κs. search rules)
-    (λ c. rw (text_refused c.before.read.ensures c.if1.true) (sym (witness_refused_text _ _ _)))
-    (λ c. let a = taken c.before in rw a.read (sym (witness_missing _ _ (omega (arith, a.counted.rows, c.if2.true)))))
-    (λ c κs. let e = c.before.before.before.before in let a = taken e.before in lent_asked _ a.sized a.held a.well _ e.if2.false)
+    (λ c. rw (text_refused c.read-r.ensures c.if-r-ne0.true) (sym (witness_refused_text _ _ _)))
+    (λ c. let a = taken c.before in rw a.read (sym (witness_missing _ _ (omega (arith, a.counted.rows, c.if-k-r.true)))))
+    (λ c κs. let e = c.before.before.before.before in let a = taken e in lent_asked _ a.sized a.held a.well _ c.if-k-r.false)
     (λ c κs. search rules)
     told)
