@@ -12,28 +12,28 @@ use Rattle.mesh_call.proofs.mesh_of.Statement.{statement}
 use Rattle.mesh_call.proofs.mesh_of.Tie as tie
 
 -- the text is accepted
-taken : (c : tie.Else1) → Accepted c.before.before.before.args.text.now c.before.read.result
-taken c = let r = c.before.read in accepted _ _ r.type-inv r.ensures c.if1.false
+taken : (c : tie.Else-r-ne0) → Accepted c.args.text.now c.read-r.result
+taken c = let r = c.read-r in accepted _ _ r.type_inv r.ensures c.if-r-ne0.false
 
-told : tie.Need-returns-3
+told : tie.Need-returns
 told c =
     let j = c.before in
     let i = j.before.before.before.before.before in
-    let a = taken i.before in
+    let a = taken i in
     c.tell.ensures
-    ∙ ap returned (j.judge.ensures ∙ lent_mesh i.before.before.read.result.table a.sized a.held _ i.if2.false)
-    ∙ sym (mesh_verdict _ _ a.read _ (omega (arith, a.counted.rows, i.if2.false)))
+    ∙ ap returned (j.judge.ensures ∙ lent_mesh i.read-r.result.table a.sized a.held _ c.if-r-k.false)
+    ∙ sym (mesh_verdict _ _ a.read _ (omega (arith, a.counted.rows, c.if-r-k.false)))
 
 pub mesh_of_spec : {M : Type 1} → statement M
 mesh_of_spec =
     tie.close
     (tie.spec
     (λ c κs. search rules)
-    (λ c. rw (text_refused c.before.read.ensures c.if1.true) (sym (mesh_refused_text _ _ _)))
-    (λ c. let a = taken c.before in rw a.read (sym (mesh_missing _ _ (omega (arith, a.counted.rows, c.if2.true)))))
+    (λ c. rw (text_refused c.read-r.ensures c.if-r-ne0.true) (sym (mesh_refused_text _ _ _)))
+    (λ c. let a = taken c.before in rw a.read (sym (mesh_missing _ _ (omega (arith, a.counted.rows, c.if-r-k.true)))))
     (λ c κs. let e = c.before.before.before.before in
-    let a = taken e.before in
-    let h = e.if2.false in
-    (lent_asked _ a.sized a.held a.well _ h, lent_ordered e.before.before.read.result.table a.well _ h))
+    let a = taken e in
+    let h = c.if-r-k.false in
+    (lent_asked _ a.sized a.held a.well _ h, lent_ordered e.read-r.result.table a.well _ h))
     (λ c κs. search rules)
     told)

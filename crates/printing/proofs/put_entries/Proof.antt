@@ -19,14 +19,14 @@ use Rattle.printing.proofs.Laws.Printed.{prints_not, prints_all}
 use Rattle.printing.proofs.put_entries.Statement.{statement}
 use Rattle.printing.proofs.put_entries.Tie as tie
 
-abbrev I : tie.invariant-loop
+abbrev I : tie.invariant-loop-i
 I entries out₀ count i₀ out i = Copying out₀ out (line_bytes * i) (hex_lines entries) (hex_lines (drop (entry_bytes * i) entries))
 
-abbrev μ : tie.decreases-loop
+abbrev μ : tie.decreases-loop-i
 μ entries out₀ count i₀ out i = count - i
 
 -- where the loop begins a turn
-module _ (c : tie.At-loop I μ) where
+module _ (c : tie.At-loop-i I μ) where
   abbrev s : tie.Start I μ
   s = c.before.before.before.before
 
@@ -36,49 +36,49 @@ module _ (c : tie.At-loop I μ) where
   abbrev out : List ℕ
   out = s.args.out.now
 
-  long : length c.loop.out ≡ length out
-  long = ap length c.loop.invariant.stored ∙ length-sets out 0 c.loop.invariant.done
+  long : length c.loop-i.out ≡ length out
+  long = ap length c.loop-i.invariant.stored ∙ length-sets out 0 c.loop-i.invariant.done
 
   room : line_bytes * (length entries / entry_bytes) ≤ length out
-  room = let h = c.before.if1.false in omega arith
+  room = let h = c.if-out-count.false in omega arith
 
-short : tie.Need-returns I μ
+short : tie.Need-returns-then-out-count I μ
 short c =
-    let a = c.before.before.before.args in
-    let h = c.if1.true in
+    let a = c.args in
+    let h = c.if-out-count.true in
     let e = length_hex a.entries.now in
     prints_not (hex_lines a.entries.now) a.out.now (omega arith)
 
 -- after the digits of entry i are put
 module _ (c : tie.After-put I μ) where
-  abbrev l : tie.At-loop I μ
+  abbrev l : tie.At-loop-i I μ
   l = c.before.before.before.before
 
   abbrev i : ℕ
-  i = l.loop.i
+  i = l.loop-i.i
 
   -- the lines from the next entry on
   abbrev left : List ℕ
   left = hex_lines (drop (entry_bytes * (i + 1)) (entries l))
 
-  digits : Copying (out l) c.put.new.1.0 (line_bytes * i + 2 * entry_bytes) (hex_lines (entries l)) (line_feed ∷ left)
+  digits : Copying (out l) c.put.new.out (line_bytes * i + 2 * entry_bytes) (hex_lines (entries l)) (line_feed ∷ left)
   digits =
       copying_more (line_of (entry_at (entries l) i))
-      (rw (line_next (entries l) i c.before.before.before.loop-test.true) at l.loop.inv)
+      (rw (line_next (entries l) i c.loop-i-test.true) at l.loop-i.invariant)
       c.put.ensures
       (simp (length_line_of, length-take, length-drop) (omega arith))
 
-  more : Copying (out l) (set c.put.new.1.0 (line_bytes * i + 2 * entry_bytes) line_feed) (line_bytes * (i + 1)) (hex_lines (entries l)) left
+  more : Copying (out l) (set c.put.new.out (line_bytes * i + 2 * entry_bytes) line_feed) (line_bytes * (i + 1)) (hex_lines (entries l)) left
   more = copying_more (line_feed ∷ []) digits refl (omega arith)
 
-whole : tie.Need-returns-2 I μ
+whole : tie.Need-returns I μ
 whole c =
     let k = c.before in
     let e = length_hex (entries k) in
     let r = room k in
     let h : length (hex_lines (entries k)) ≤ length (out k) = omega arith in
     prints_all (hex_lines (entries k)) (out k) _ _ h
-    (copying_end (rw (line_end (entries k) k.loop.i c.loop-test.false) at k.loop.invariant)
+    (copying_end (rw (line_end (entries k) k.loop-i.i c.loop-i-test.false) at k.loop-i.invariant)
     ∙ written_stored (hex_lines (entries k)) (out k) h)
     (sym e)
 

@@ -18,46 +18,45 @@ zeros : length (replicate {A = ℕ} (entry_bytes * most_entries) 0) ≡ entry_by
 zeros = length-replicate {A = ℕ} (entry_bytes * most_entries) 0
 
 -- List counts n entries
-module _ (c : tie.After-known-told) where
+module _ (c : tie.In-Count) where
   abbrev l : tie.After-list
-  l = c.before.before.before.before
+  l = c.before.before
 
-  same : length l.list.last.1.0 ≡ entry_bytes * most_entries
-  same = l.list.kept.1.0 ∙ zeros
+  same : length l.list.new.out ≡ entry_bytes * most_entries
+  same = l.list.auto.out ∙ zeros
 
-  fits : entry_bytes * c.before.n.given.0.0 ≤ length l.list.last.1.0
-  fits = omega (arith, l.list.kept.1.0, count_fits _ _ _ _ l.list.ensures.0 c.before.n.given.1)
+  fits : entry_bytes * c.in-Count.n ≤ length l.list.new.out
+  fits = omega (arith, l.list.auto.out, count_fits _ _ _ _ l.list.ensures.0 c.in-Count.is)
 
-whole : tie.Need-returns
+whole : tie.Need-returns-in-Count
 whole c =
     let p = c.before.before in
     let k = p.before.before.before in
     prints_other
-    (rowlist_counted _ _ _ _ zeros (l k).list.ensures.0 _ k.before.n.given.1 (l k).list.ensures.1)
+    (rowlist_counted _ _ _ _ zeros (l k).list.ensures.0 _ c.in-Count.is (l k).list.ensures.1)
     p.put_entries.ensures
 
 -- List refuses the text
-refused : tie.Need-returns-2
+refused : tie.Need-returns-in-Refused
 refused c =
     let p = c.before.before in
     let k = p.before.before.before in
     let l = k.before.before.before in
-    let out = l.before.before.before.before.args.out in
-    let told = k.number.given in
-    let line : Prints (refusal_line told.0.0 told.0.1.0) out.now p.put-refusal.new.1.1.0 p.put-refusal.result = p.put-refusal.ensures in
-    prints_other (rowlist_refused _ _ l.list.new.1.0 _ zeros l.list.ensures.0 _ _ told.1) line
+    let out = l.args.out in
+    let line : Prints (refusal_line c.in-Refused.number c.in-Refused.line) out.now p.put_refusal.new.out p.put_refusal.result = p.put_refusal.ensures in
+    prints_other (rowlist_refused _ _ l.list.new.out _ zeros l.list.ensures.0 _ _ c.in-Refused.is) line
 
 pub put_list_spec : {M : Type 1} → statement M
 put_list_spec =
     tie.close
     (tie.spec
     (λ c. search rules) (λ c κs. search rules)
-    (λ c. c.match.keys1)
+    (λ c. search rules)
     (λ c. omega (arith, fits c, same c))
     fits
     (λ c. sym (length-take-le _ _ (fits c.before)))
     (λ c κs. search rules)
-    (λ c. c.match.keys2)
+    (λ c. search rules)
     (λ c κs. search rules) (λ c. search rules)
     whole
     (λ c. search rules)

@@ -7,7 +7,7 @@ returns : tie.Need-returns
 returns c =
     let p = c.before.before in
     let d = p.before.before.before.before in
-    rw d.put.ensures at p.put2.ensures
+    rw d.put.ensures at p.put-2.ensures
 
 pub put_refusal_spec : {M : Type 1} → statement M
 put_refusal_spec =

@@ -5,31 +5,31 @@ use Rattle.printing.proofs.put_struck.Statement.{statement}
 use Rattle.printing.proofs.put_struck.Tie as tie
 
 -- the output is too short
-short : tie.Need-returns
+short : tie.Need-returns-then-number-eq-SHORT_OUTPUT
 short c =
-    let s = c.before.before.before.before.before.before in
-    strike_short _ _ _ _ s.strike.ensures.0 s.strike.ensures.1 _ _ c.before.before.number.given.1 c.if1.true
+    let s = c in
+    strike_short _ _ _ _ s.strike.ensures.0 s.strike.ensures.1 _ _ c.in-Refused.is c.if-number-eq-SHORT_OUTPUT.true
 
-whole : tie.Need-returns-2
+whole : tie.Need-returns-in-Count
 whole c =
-    let s = c.before.before.before.before.before in
-    strike_whole _ _ _ _ s.strike.ensures.0 s.strike.ensures.1 _ c.before.n.given.1
+    let s = c in
+    strike_whole _ _ _ _ s.strike.ensures.0 s.strike.ensures.1 _ c.in-Count.is
 
 -- the text is refused
-refused : tie.Need-returns-3
+refused : tie.Need-returns-else-number-eq-SHORT_OUTPUT
 refused c =
-    let p = c.before.before in
-    let i = p.before.before in
-    let s = i.before.before.before.before.before.before in
-    strike_refusal _ _ _ _ s.strike.ensures.0 s.strike.ensures.1 _ _ i.before.before.number.given.1 i.if1.false p.put-refusal.ensures
+    let p = c in
+    let i = c in
+    let s = c in
+    strike_refusal _ _ _ _ s.strike.ensures.0 s.strike.ensures.1 _ _ c.in-Refused.is i.if-number-eq-SHORT_OUTPUT.false p.put_refusal.ensures
 
 pub put_struck_spec : {M : Type 1} → statement M
 put_struck_spec =
     tie.close
     (tie.spec
     (λ c κs. search rules)
-    (λ c. c.match.keys1)
-    (λ c. c.match.keys2)
+    (λ c. search rules)
+    (λ c. search rules)
     (λ c. search rules)
     short
     (λ c κs. search rules) (λ c. search rules)

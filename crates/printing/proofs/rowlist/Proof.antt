@@ -4,11 +4,11 @@ use Rattle.printing.proofs.Laws.Printed.{prints_other, rowlist_long, rowlist_tex
 use Rattle.printing.proofs.rowlist.Statement.{statement}
 use Rattle.printing.proofs.rowlist.Tie as tie
 
-long : tie.Need-returns
-long c = let p = c.before.before in prints_other (rowlist_long _ p.before.before.before.if1.true) p.put.ensures
+long : tie.Need-returns-then-input-gt-INPUT
+long c = let p = c.before.before in prints_other (rowlist_long _ p.if-input-gt-INPUT.true) p.put.ensures
 
-text : tie.Need-returns-2
-text c = let p = c.before.before in prints_other (rowlist_text _ p.before.before.if1.false) p.put-list.ensures
+text : tie.Need-returns
+text c = let p = c.before.before in prints_other (rowlist_text _ p.if-input-gt-INPUT.false) p.put_list.ensures
 
 pub rowlist_spec : {M : Type 1} → statement M
 rowlist_spec = tie.close (tie.spec (λ c. search rules) (λ c κs. search rules) (λ c. search rules) long (λ c κs. search rules) (λ c. search rules) text)
