@@ -23,7 +23,6 @@ use printing::limits::PRINTED;
 use relations::group::Probe;
 use std::env::{Env, FillError};
 use std::fs::File;
-use std::io::Read;
 use std::{fs, io};
 
 // How many bytes a field's number has, and a probe, a couple and a side have digits.
@@ -313,32 +312,12 @@ fn open(rt: &HostRuntime, path: &[u8]) -> Option<File> {
     }
 }
 
-// Reads once, into buffer from place n on. Returns the place after what was read: n itself at the file's end, or if the read fails.
-fn read_at(file: &mut File, buffer: &mut [u8], n: usize) -> usize
-    requires { n ≤ length buffer.old }
-    ensures low { n ≤ result }
-    ensures high { result ≤ length buffer.old }
-{
-    match file.read(&mut buffer[n..]) {
-        Ok(count) => n + count,
-        Err(_) => n,
-    }
-}
-
 // Reads the file to its end, or until buffer is full or a read fails, and closes it. Returns how many bytes were read.
 fn read(mut file: File, buffer: &mut [u8]) -> usize
     ensures fits { result ≤ length buffer.new }
     ensures part { result ≡ length (take result buffer.new) }
 {
-    let mut n = 0;
-    while n < buffer.len() {
-        let next = read_at(&mut file, buffer, n);
-        if next == n {
-            return n;
-        }
-        n = next;
-    }
-    n
+    standard::fill(&mut file, buffer).length
 }
 
 fn answer_files(rt: &HostRuntime, text_path: &[u8], questions_path: &[u8]) {

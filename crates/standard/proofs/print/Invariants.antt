@@ -1,9 +1,0 @@
--- Each turn writes one byte at least.
-use Rattle.std.proofs.Common.{length, ◌-◌, ◌≤◌}
-use Rattle.standard.proofs.print.Given as goal
-
-abbrev pub invariant-loop-n : goal.invariant-loop-n
-invariant-loop-n l = l.n ≤ length l.text
-
-abbrev pub decreases-loop-n : goal.decreases-loop-n
-decreases-loop-n l = length l.text - l.n
