@@ -39,9 +39,8 @@ whole c =
 -- List refuses the text
 refused : tie.Need-returns-in-Refused
 refused c =
-    let p = c.before.before in
-    let k = p.before.before.before in
-    let l = k.before.before.before in
+    let p = c in
+    let l = c in
     let out = l.args.out in
     let line : Prints (refusal_line c.in-Refused.number c.in-Refused.line) out.now p.put_refusal.new.out p.put_refusal.result = p.put_refusal.ensures in
     prints_other (rowlist_refused _ _ l.list.new.out _ zeros l.list.ensures.0 _ _ c.in-Refused.is) line
