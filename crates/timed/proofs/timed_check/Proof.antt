@@ -11,7 +11,7 @@ timed_check_spec =
     tie.close
     (tie.spec
     (λ c κs. search rules)
-    (λ c. c.match.keys1)
-    (λ c. c.match.keys2)
-    (λ c. case_of check_code check_answer c.enum_told.given.1 c.before.before.check.ensures)
-    (λ c. case_of check_code check_answer c.enum-told2.given.1 c.before.before.check.ensures))
+    (λ c. search rules)
+    (λ c. search rules)
+    (λ c. case_of check_code check_answer c.in-Counts.is c.check.ensures)
+    (λ c. case_of check_code check_answer c.in-Refused.is c.check.ensures))

@@ -6,7 +6,7 @@ use Rattle.timed.proofs.timed_join.Statement.{statement}
 use Rattle.timed.proofs.timed_join.Tie as tie
 
 returns : tie.Need-returns
-returns c = let d = c.before.before.before.join.ensures in (c.packed-count.ensures ∙ ap packed d.0, d.1)
+returns c = let d = c.join.ensures in (c.packed_count.ensures ∙ ap packed d.0, d.1)
 
 pub timed_join_spec : {M : Type 1} → statement M
 timed_join_spec = tie.close (tie.spec (λ c κs. search rules) (λ c κs. search rules) (λ c. search rules) returns)

@@ -7,4 +7,4 @@ use Rattle.timed.proofs.timed_mesh.Tie as tie
 
 pub timed_mesh_spec : {M : Type 1} → statement M
 timed_mesh_spec =
-    tie.close (tie.spec (λ c κs. search rules) (λ c κs. search rules) (λ c. c.code.ensures ∙ ap witness_code c.before.mesh-of.ensures))
+    tie.close (tie.spec (λ c κs. search rules) (λ c κs. search rules) (λ c. c.code.ensures ∙ ap witness_code c.mesh_of.ensures))

@@ -6,7 +6,7 @@ use Rattle.timed.proofs.timed_prefixes.Statement.{statement}
 use Rattle.timed.proofs.timed_prefixes.Tie as tie
 
 returns : tie.Need-returns
-returns c = let d = c.before.before.before.prefixes.ensures in (c.packed-count.ensures ∙ ap packed d.0, d.1)
+returns c = let d = c.prefixes.ensures in (c.packed_count.ensures ∙ ap packed d.0, d.1)
 
 pub timed_prefixes_spec : {M : Type 1} → statement M
 timed_prefixes_spec = tie.close (tie.spec (λ c κs. search rules) (λ c κs. search rules) (λ c. search rules) returns)

@@ -7,4 +7,4 @@ use Rattle.timed.proofs.timed_witness.Tie as tie
 
 pub timed_witness_spec : {M : Type 1} → statement M
 timed_witness_spec =
-    tie.close (tie.spec (λ c κs. search rules) (λ c κs. search rules) (λ c. c.code.ensures ∙ ap witness_code c.before.witness-of.ensures))
+    tie.close (tie.spec (λ c κs. search rules) (λ c κs. search rules) (λ c. c.code.ensures ∙ ap witness_code c.witness_of.ensures))
