@@ -1,5 +1,6 @@
 // The analyser's calls, but for Mesh, which stands in `mesh_call`. Each takes the text of a table, and leaves it unchanged. A text that is refused
 // gives its own refusal; else the conditions that a call asks follow in the documents' order: 9, 10, 11, 12, 8.
+#![tactic(auto)]
 
 ghost use Rattle.std.specs.Prelude.{◌≡◌};
 ghost use Rattle.base.specs.Answers.{refused_by};

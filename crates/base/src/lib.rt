@@ -1,4 +1,6 @@
 // What is about no document.
+#![tactic(auto)]
+
 ghost use Rattle.std.specs.Prelude.{◌≡◌};
 ghost use Rattle.base.specs.Truths.{bit as bit_of};
 

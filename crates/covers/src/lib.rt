@@ -1,4 +1,6 @@
 // The cover of a row: the earlier rows of its group that are ⪰ it in source and destination. The runs of a table are lent, and left unchanged.
+#![tactic(auto)]
+
 pub mod set;
 
 ghost use Rattle.std.specs.Prelude.{◌≡◌};

@@ -1,4 +1,6 @@
 // Hexadecimal lines: digits, bytes and numbers in, digits out. No function here knows a frame.
+#![tactic(auto)]
+
 ghost use Rattle.std.specs.Prelude.{◌≡◌, ◌+◌, ◌*◌, ◌/◌, ◌%◌, ◌<◌, ◌≤◌, length, get_or};
 ghost use Rattle.std.proofs.lemmas.List.Edits.{sets};
 ghost use Rattle.hexlines.specs.Digits.{digit_value, byte_of, digit_of};

@@ -1,4 +1,6 @@
 // Joining two rows: whether they can be joined, and the row that they are joined to. The parents of all entities are lent, and left unchanged.
+#![tactic(auto)]
+
 ghost use Rattle.std.specs.Prelude.{◌≡◌};
 ghost use Rattle.policy.specs.Views.{parent_in, row_of};
 ghost use Rattle.relations.specs.Entities.{TwoEntities};

@@ -1,4 +1,6 @@
 // The twenty-two kinds of anomalies: a function for each, equal to its test in specs/.
+#![tactic(auto)]
+
 pub mod filter;
 pub mod numbers;
 pub mod pair;

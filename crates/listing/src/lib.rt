@@ -1,4 +1,6 @@
 // The entries of a table's anomalies, in order, in the caller's buffer.
+#![tactic(auto)]
+
 pub mod limits;
 pub mod marks;
 pub mod put;

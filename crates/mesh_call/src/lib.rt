@@ -1,4 +1,5 @@
 // The call Mesh, of document 02, [8]. Neither this crate nor one that it stands on has the search in it (crates.txt).
+#![tactic(auto)]
 
 ghost use Rattle.reader.specs.States.{parse};
 ghost use Rattle.mesh_call.specs.Calls.{MeshAnswers};

@@ -1,4 +1,6 @@
 // The prefixes of a range of addresses, written to the caller's output.
+#![tactic(auto)]
+
 pub mod side;
 
 ghost use Rattle.std.specs.Prelude.{◌≡◌, map, ◌+◌, ◌*◌, ◌-◌, ◌/◌, ◌^◌, ◌≤◌, ◌<◌, ltb, length};

@@ -1,5 +1,7 @@
 // What the programs rowlist and strike print of their input, from slice to slice. Each function writes to the start of out, if there is room
 // for all that it has to write, and returns how many bytes; the rest of out is unchanged. If there is no room it writes nothing and returns 0.
+#![tactic(auto)]
+
 pub mod limits;
 
 ghost use Rattle.reader.specs.States.{parse};

@@ -1,4 +1,6 @@
 // Document 01, "Relations": the layer that the anomalies rest on.
+#![tactic(auto)]
+
 pub mod coefficients;
 pub mod entity;
 pub mod group;

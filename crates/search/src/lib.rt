@@ -1,4 +1,6 @@
 // The least packet of a row that no box claims. The bounds of all selectors are lent, and left unchanged; boxes are told by their numbers.
+#![tactic(auto)]
+
 pub mod kept;
 pub mod reach;
 pub mod walk;

@@ -1,4 +1,6 @@
 // What the benchmark calls: a text and rows' numbers in, a number out.
+#![tactic(auto)]
+
 ghost use Rattle.std.specs.Prelude.{◌≡◌};
 ghost use Rattle.reader.specs.States.{parse};
 ghost use Rattle.calls.specs.Views.{witness_answer};

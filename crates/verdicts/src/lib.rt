@@ -1,4 +1,6 @@
 // Dead or witness of a row: the search over its cover. The runs of a table are lent, and left unchanged.
+#![tactic(auto)]
+
 ghost use Rattle.std.specs.Prelude.{◌≡◌};
 ghost use Rattle.covers.specs.Views.{result_of};
 ghost use Rattle.covers.specs.Covers.{Asked};

@@ -1,7 +1,7 @@
 -- What holds of each of a list: of two lists together, of one thing more; at a place, and two ways to tell each that agree; a test of each
 -- number; one thing that fails a test of each.
 -- Assumes nothing.
-use Prim.Native.Nat.{ℕ, zero, suc, ◌+◌, ◌<◌}
+use Prim.Native.Nat.{ℕ, zero, suc, ◌<◌}
 use mathlib.Core.Path.{◌≡◌, refl}
 use mathlib.Core.Bool.{Bool, true, not, ◌&&◌}
 use mathlib.Core.Logic.{◌⊎◌, inl, inr}

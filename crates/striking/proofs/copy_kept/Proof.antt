@@ -72,21 +72,22 @@ again c =
       subst (λ (p : ℕ). Copying (s k).args.out.now c.if-keeps.out c.if-keeps.n (whole k) (kept_bytes (keep k) p (drop ((l k).loop-i.i + 1) (text k))))
           (sym e)
           (elim c.if-keeps.branch [
-          then-keeps w ↦ record {
-            done = (copied k w.if-keeps.true).done;
-            stored = w.out-is ∙ (copied k w.if-keeps.true).stored;
-            count = w.n-is ∙ (copied k w.if-keeps.true).count;
-            rest = (copied k w.if-keeps.true).rest;
-          } |
-          else-keeps w ↦ record {
-            done = (l k).loop-i.invariant.2.done;
-            stored = w.out-is ∙ (l k).loop-i.invariant.2.stored;
-            count = w.n-is ∙ (l k).loop-i.invariant.2.count;
-            rest =
-                ap (λ (r : List ℕ). (l k).loop-i.invariant.2.done ++ r)
-                (sym (next k ∙ rw (sym k.keeps.ensures ∙ w.if-keeps.false)))
-                ∙ (l k).loop-i.invariant.2.rest;
-          }]),
+            | then-keeps w ↦ record {
+              done = (copied k w.if-keeps.true).done;
+              stored = w.out-is ∙ (copied k w.if-keeps.true).stored;
+              count = w.n-is ∙ (copied k w.if-keeps.true).count;
+              rest = (copied k w.if-keeps.true).rest;
+            }
+            | else-keeps w ↦ record {
+              done = (l k).loop-i.invariant.2.done;
+              stored = w.out-is ∙ (l k).loop-i.invariant.2.stored;
+              count = w.n-is ∙ (l k).loop-i.invariant.2.count;
+              rest =
+                  ap (λ (r : List ℕ). (l k).loop-i.invariant.2.done ++ r)
+                  (sym (next k ∙ rw (sym k.keeps.ensures ∙ w.if-keeps.false)))
+                  ∙ (l k).loop-i.invariant.2.rest;
+            }
+          ]),
     )
   where
     copied : (k : tie.After-keeps I μ) → k.keeps.result ≡ true → Copying (s k).args.out.now (set (l k).loop-i.out (l k).loop-i.n (byte k)) ((l k).loop-i.n + 1) (whole k) (left k)

@@ -6,7 +6,6 @@ use native.Mathlib.Omega.{arith}
 use lib.Count.{count_trailing_zeros}
 use lib.ListN.{get_or}
 use lib.Pow.{shl_exact}
-use Rattle.base.specs.Truths.{bit}
 use Rattle.base.proofs.Laws.Passing.{bit_le}
 use Rattle.policy.specs.Limits.{most_selectors}
 use Rattle.policy.specs.Model.{Range}

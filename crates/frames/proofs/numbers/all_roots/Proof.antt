@@ -1,6 +1,5 @@
 -- `all_roots` meets its contract: so far all were roots' numbers, and what is left decides. Assumes nothing.
 use borrow.Author.Rules.{rules}
-use borrow.Author.Tests.{not-true, not-false}
 use native.Mathlib.Omega.{arith}
 use native.Mathlib.Numerals.{add-one}
 use Prim.Native.Nat.{ℕ, ◌+◌, ◌≤◌, ◌-◌}

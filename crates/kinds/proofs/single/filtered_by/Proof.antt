@@ -1,6 +1,5 @@
 -- `filtered_by` meets its contract: it makes the two tests, the second where the first holds. Assumes nothing.
 use borrow.Author.Rules.{rules}
-use borrow.Author.Tests.{not-true, not-false}
 use mathlib.Core.Path.{◌≡◌, sym, ap, ◌∙◌}
 use mathlib.Core.Bool.{true, false, not}
 use Rattle.policy.specs.Model.{Filter}

@@ -1,6 +1,5 @@
 -- `rides` meets its contract: it makes the two tests, on as many gateways as there are. Assumes nothing.
 use borrow.Author.Rules.{rules}
-use borrow.Author.Tests.{not-true, not-false}
 use mathlib.Core.Path.{◌≡◌, sym, ◌∙◌}
 use lib.ListN.{take}
 use Rattle.base.proofs.Laws.Members.{take_own}

@@ -5,7 +5,6 @@ use mathlib.Core.Path.{◌≡◌, sym, ap, ◌∙◌}
 use mathlib.Core.Bool.{false}
 use native.Mathlib.Omega.{arith}
 use lib.ListN.{get_or, drop, length-drop}
-use Rattle.base.specs.Truths.{bit}
 use Rattle.base.proofs.Laws.Passing.{bit_le}
 use Rattle.kinds.specs.Kinds.{kind_count}
 use Rattle.base.specs.Bits.{bits_of}

@@ -1,6 +1,5 @@
 -- `of_pair` meets its contract: of boxes that overlap it asks for each kind, and of others there are none. Assumes nothing.
 use borrow.Author.Rules.{rules}
-use borrow.Author.Tests.{not-true, not-false}
 use Prim.Native.Nat.{◌+◌}
 use mathlib.Core.Path.{refl, sym, ap, ◌∙◌}
 use Rattle.policy.specs.Views.{parent_in}
