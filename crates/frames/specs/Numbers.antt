@@ -18,6 +18,6 @@ unfoldable pub all_roots : List ℕ → List ℕ → Bool
 all_roots parents gs = all_pass (is_root parents) gs
 
 -- The lent list has a number for each entity that there may be, and there are `entities` of them.
-pub record Lent (perEntity : List ℕ) (entities : ℕ) : Type 0 where
-  pub full : length perEntity ≡ most_entities
+pub record Lent (per_entity : List ℕ) (entities : ℕ) : Type 0 where
+  pub full : length per_entity ≡ most_entities
   pub few : entities ≤ most_entities

@@ -27,8 +27,8 @@ row port =
       gateways = [];
     }
 
-abbrev pub tableT : Table
-tableT =
+abbrev pub table_t : Table
+table_t =
     record {
       entities = root ∷ child 0 ∷ root ∷ child 2 ∷ [];
       caps = replicate technologies (255 ∷ 255 ∷ 255 ∷ []);
@@ -40,5 +40,5 @@ tableT =
 -- "000802, 0010FF, 010802, 0110FF, 0210FF, 0214FF"
 abbrev pub Printed : Type 0
 Printed =
-    entries tableT
+    entries table_t
     ≡ entry 0 8 2 ∷ entry 0 16 no_second ∷ entry 1 8 2 ∷ entry 1 16 no_second ∷ entry 2 16 no_second ∷ entry 2 20 no_second ∷ []

@@ -52,7 +52,7 @@ pub record GoodAmong (parents heads bounds : List ℕ) (rows i : ℕ) : Type 0 w
 -- ---- the marks
 
 -- What the tests of the kinds look at, of what is lent, and the kinds of a row alone.
-module _ (parents masks filterRoots filterActions heads bounds roots : List ℕ) (a : Alone) where
+module _ (parents masks filter_roots filter_actions heads bounds roots : List ℕ) (a : Alone) where
   abbrev pub seen_in : Seen
   seen_in =
       record {
@@ -61,7 +61,7 @@ module _ (parents masks filterRoots filterActions heads bounds roots : List ℕ)
         caps = map coefficients_of a.caps;
         floor = coefficients_of a.floor;
         filters = a.filters;
-        filter = filter_in filterRoots filterActions bounds;
+        filter = filter_in filter_roots filter_actions bounds;
         rows = a.rows;
         placed = placed_in heads bounds roots;
         dead = λ i. is_none (verdict_after (parent_in parents) (rows_in heads bounds i) (row_in heads bounds i));

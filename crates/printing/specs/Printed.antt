@@ -39,8 +39,8 @@ hex_lines (a ∷ b ∷ c ∷ rest) = entry_line a b c ++ hex_lines rest
 
 -- What is printed of a text, given what is printed of its table.
 abbrev pub printed_of : (Table → List ℕ) → Answer Parsed → List ℕ
-printed_of ofTable (returned r) = ofTable r.table
-printed_of ofTable (refused_by number line) = refusal_line number line
+printed_of of_table (returned r) = of_table r.table
+printed_of of_table (refused_by number line) = refusal_line number line
 
 unfoldable pub list_printed : Answer Parsed → List ℕ
 list_printed x = printed_of (λ t. entry_lines (entries t)) x
@@ -50,7 +50,7 @@ struck_printed text x = printed_of (struck_text text) x
 
 -- What is printed of an input, given what is printed of it as a text.
 abbrev pub printed : List ℕ → List ℕ → List ℕ
-printed asText input = pick (leb (length input) most_input) asText too_long
+printed as_text input = pick (leb (length input) most_input) as_text too_long
 
 unfoldable pub rowlist_prints : List ℕ → List ℕ
 rowlist_prints input = printed (list_printed (parse input)) input

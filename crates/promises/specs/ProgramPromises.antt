@@ -16,14 +16,14 @@ pub record EntryLines : Type 0 where
   pub more : (i kind j : ℕ) (l : List Entry)
       → entry_lines (entry i kind j ∷ l) ≡ digits_of i ++ (digits_of kind ++ (digits_of j ++ (10 ∷ entry_lines l)))
 
--- A program that prints this of its input, and `ofTable` of an accepted text; its output has `space` bytes.
-pub record ProgramPromise (prints : List ℕ → List ℕ) (ofTable : List ℕ → Table → List ℕ) (space : ℕ) : Type 0 where
+-- A program that prints this of its input, and `of_table` of an accepted text; its output has `space` bytes.
+pub record ProgramPromise (prints : List ℕ → List ℕ) (of_table : List ℕ → Table → List ℕ) (space : ℕ) : Type 0 where
   -- "Both read standard input of up to 16 KiB .. longer input prints !00": of one byte more than that, or of all
   pub longer : (input : List ℕ) (read : ℕ) → 16385 ≤ read → 16384 < length input → prints (take read input) ≡ 33 ∷ 48 ∷ 48 ∷ 10 ∷ []
   -- "A refused text prints ! and two digits each of number and line"
   pub refused : (input : List ℕ) (number line : ℕ) → length input ≤ 16384 → parse input ≡ refused_by number line
       → prints input ≡ 33 ∷ (digits_of number ++ (digits_of line ++ (10 ∷ [])))
-  pub accepted : (input : List ℕ) (t : Table) → length input ≤ 16384 → parse input ≡ returned (table_read t) → prints input ≡ ofTable input t
+  pub accepted : (input : List ℕ) (t : Table) → length input ≤ 16384 → parse input ≡ returned (table_read t) → prints input ≡ of_table input t
   -- it stands at the output's start, whole: the program writes the first n bytes, and the others are unchanged
   pub written : (input before after : List ℕ) (n : ℕ) → space ≤ length before → Prints (prints input) before after n
       → (take n after ≡ prints input) × (drop n after ≡ drop n before)

@@ -1,11 +1,11 @@
 -- The calls that write a result:
 --   room, no_room: their condition, kept and broken
---   call-broken: what such a call does, of a text that is accepted, where another condition is broken
---   call-asked, call-writes: where none is, and the result is written if it fits
---   call-short, call-whole: its answer and output, for an output too short, and for one with room
---   list-short, list-whole, list-writes, strike-short, strike-whole, strike-writes: the same of List and Strike
---   list-told, list-refused, strike-told, strike-refused: why List and Strike answer as they do
---   list_wrote, strike-wrote, strike-left: what they leave in the output, where they tell a number, and where they refuse
+--   call_broken: what such a call does, of a text that is accepted, where another condition is broken
+--   call_asked, call_writes: where none is, and the result is written if it fits
+--   call_short, call_whole: its answer and output, for an output too short, and for one with room
+--   list_short, list_whole, list_writes, strike_short, strike_whole, strike_writes: the same of List and Strike
+--   list_told, list_refused, strike_told, strike_refused: why List and Strike answer as they do
+--   list_wrote, strike_wrote, strike_left: what they leave in the output, where they tell a number, and where they refuse
 --   count_fits: as many entries as are counted have room
 -- Assumes nothing.
 use Prim.Native.Nat.{ℕ, ◌*◌, ◌≤◌, ◌<◌}

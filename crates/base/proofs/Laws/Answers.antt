@@ -1,11 +1,11 @@
 -- Laws of answers:
---   Kept, given-kept: all conditions hold, and the value is returned
---   Broken, given-broken: one is broken, those before it hold, and its number is the refusal's
---   Told, told-why, refused_why: why a call returns, and why it refuses
---   given-after, broken-first: further conditions, after some that all hold, and after some of which one is broken
---   told-room, wrote-room: a call whose one condition is that its result has room in the output
---   wrote-refused: a refusal writes nothing
---   case-of: an enum that stands for an answer
+--   Kept, given_kept: all conditions hold, and the value is returned
+--   Broken, given_broken: one is broken, those before it hold, and its number is the refusal's
+--   Told, told_why, refused_why: why a call returns, and why it refuses
+--   given_after, broken_first: further conditions, after some that all hold, and after some of which one is broken
+--   told_room, wrote_room: a call whose one condition is that its result has room in the output
+--   wrote_refused: a refusal writes nothing
+--   case_of: an enum that stands for an answer
 -- Assumes nothing.
 use Prim.Native.Nat.{ℕ}
 use mathlib.Core.Path.{◌≡◌, refl, sym, ap, ◌∙◌}

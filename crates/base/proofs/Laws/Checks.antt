@@ -1,9 +1,9 @@
 -- Laws of conditions:
 --   both: two that hold together
---   refusal-first, refusal-holds, refusal-broken, refusal-none: the refusal of a list of conditions, by the first of them
---   none-broken, one_kept: conditions that are all kept
---   Numbered, refusal-most: numbers up to a bound
---   Rising, Faults, Breaks, refusal-least, refusal-fault: the refusal of conditions by ascending number is the least fault
+--   refusal_first, refusal_holds, refusal_broken, refusal_none: the refusal of a list of conditions, by the first of them
+--   none_broken, one_kept: conditions that are all kept
+--   Numbered, refusal_most: numbers up to a bound
+--   Rising, Faults, Breaks, refusal_least, refusal_fault: the refusal of conditions by ascending number is the least fault
 -- Assumes nothing.
 use Prim.Native.Nat.{ℕ, ◌≤◌, ◌<◌}
 use mathlib.Core.Path.{◌≡◌, refl, sym, subst, ◌∙◌}

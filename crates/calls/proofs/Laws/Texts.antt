@@ -1,7 +1,7 @@
 -- What every call does first: it reads the text. From the reader that stands for it,
---   text-refused: the text's refusal, which is then that of every call
+--   text_refused: the text's refusal, which is then that of every call
 --   Accepted, accepted: the table, and what holds of it
---   row-answered: of a row that is there, the value of a call on it
+--   row_answered: of a row that is there, the value of a call on it
 -- Assumes nothing.
 use mathlib.Core.Path.{◌≡◌, refl, sym, ◌∙◌}
 use mathlib.Core.List.{List, [], ◌∷◌}

@@ -1,7 +1,7 @@
 -- Laws of caps' frames:
---   cap-next: a cap that has its place is the next technology's
---   early-cap: caps come before the floor
---   cap-lawful: what is read with a cap that is not refused keeps its rules
+--   cap_next: a cap that has its place is the next technology's
+--   early_cap: caps come before the floor
+--   cap_lawful: what is read with a cap that is not refused keeps its rules
 -- Assumes nothing.
 use Prim.Native.Nat.{ℕ, ◌+◌, ◌<◌}
 use mathlib.Core.Path.{◌≡◌, refl, sym, ap, ◌∙◌}

@@ -1,8 +1,8 @@
 -- Laws of what frames claim:
---   nothing-faulty: where nothing is claimed, nothing is broken
---   Tests, tests-one, tests-and: a test that fails exactly where one of some claims is broken; of one claim, and of two lists of them
---   tests-root, tests-roots, tests-end, tests-technology, tests-ranges: the tests of these claims
---   Judges, judges-none, judges-one, judges-more: conditions by which claims are judged
+--   nothing_faulty: where nothing is claimed, nothing is broken
+--   Tests, tests_one, tests_and: a test that fails exactly where one of some claims is broken; of one claim, and of two lists of them
+--   tests_root, tests_roots, tests_end, tests_technology, tests_ranges: the tests of these claims
+--   Judges, judges_none, judges_one, judges_more: conditions by which claims are judged
 -- Assumes nothing.
 use Prim.Native.Nat.{ℕ}
 use mathlib.Core.Path.{◌≡◌, refl}

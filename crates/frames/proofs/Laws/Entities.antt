@@ -1,7 +1,7 @@
 -- Laws of entities' frames:
---   no-caps, few-entities, early-entity: what the place of an entity in the sequence tells
---   entity-passes: an entity that keeps its rules is not refused
---   entity-lawful: what is read with an entity that is not refused keeps its rules
+--   no_caps, few_entities, early_entity: what the place of an entity in the sequence tells
+--   entity_passes: an entity that keeps its rules is not refused
+--   entity_lawful: what is read with an entity that is not refused keeps its rules
 -- Assumes nothing.
 use Prim.Native.Nat.{ℕ, ◌%◌, ◌^◌, ◌<◌, ◌≤◌}
 use mathlib.Core.Path.{◌≡◌, refl, sym, ◌∙◌}

@@ -1,7 +1,7 @@
 -- Laws of filters' frames:
---   early-filter: filters come before the rows
---   filterLength-decides, filter-has-box: the lengths of a filter's bytes, and their action
---   filter-lawful: what is read with a filter that is not refused keeps its rules
+--   early_filter: filters come before the rows
+--   filter_length_decides, filter_has_box: the lengths of a filter's bytes, and their action
+--   filter_lawful: what is read with a filter that is not refused keeps its rules
 --   filter_passes: a filter that keeps its rules is not refused
 -- Assumes nothing.
 use Prim.Native.Nat.{ℕ, suc, ◌+◌, ◌<◌, ◌≤◌}

@@ -1,6 +1,6 @@
 -- Laws of the floor's frame:
---   early-floor: the floor comes once
---   floor-lawful: what is read with a floor that is not refused keeps its rules
+--   early_floor: the floor comes once
+--   floor_lawful: what is read with a floor that is not refused keeps its rules
 -- Assumes nothing.
 use mathlib.Core.Path.{◌≡◌, refl, sym, ap, ◌∙◌}
 use mathlib.Core.Bool.{true}

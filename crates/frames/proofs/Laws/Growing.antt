@@ -1,7 +1,7 @@
 -- What holds of everything that has been read so far:
 --   NoneLater, Early, Sequenced, early, whole: what has been read stands in its place of the sequence, before the floor or after it
---   Growing, growing-start, growing-nothing: besides, each thing that has been read keeps its rules
---   no-floor, few-so-far, few-lines: before the sixth cap there is no floor; how many entities and lines there are at most
+--   Growing, growing_start, growing_nothing: besides, each thing that has been read keeps its rules
+--   no_floor, few_so_far, few_lines: before the sixth cap there is no floor; how many entities and lines there are at most
 --   Lawful: what a kind of frame owes, so that what has been read with it keeps them
 -- Assumes nothing.
 use Prim.Native.Nat.{ℕ, suc, ◌<◌, ◌≤◌}

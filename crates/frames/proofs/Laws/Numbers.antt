@@ -1,7 +1,7 @@
 -- Laws of the numbers of entities and of roots:
 --   first_counted: how many entities there are so far
 --   own: a parent or a layer among those of all entities is the entity's
---   isEntity-decides, isRoot-decides: the tests of numbers
+--   is_entity_decides, is_root_decides: the tests of numbers
 -- Assumes nothing.
 use Prim.Native.Nat.{ℕ, ◌<◌}
 use mathlib.Core.Path.{◌≡◌, sym, ◌∙◌}

@@ -1,9 +1,9 @@
 -- Laws of what the bytes of a frame say:
---   bytes-there: a part of n bytes has their characters
---   coefficients-rule, selector-fits: the coefficients and the box of a line are in range
---   box-said, box-length, box_read: what a part of the bytes says as a box, its length, and that what says a box is read so
---   three-first, three-bytes: three bytes, read one by one
---   misfit-none: a frame that is no misfit has its length and its place
+--   bytes_there: a part of n bytes has their characters
+--   coefficients_rule, selector_fits: the coefficients and the box of a line are in range
+--   box_said, box_length, box_read: what a part of the bytes says as a box, its length, and that what says a box is read so
+--   three_first, three_bytes: three bytes, read one by one
+--   misfit_none: a frame that is no misfit has its length and its place
 -- Assumes nothing.
 use Prim.Native.Nat.{ℕ, zero, suc, ◌+◌, ◌*◌, ◌<◌, ◌≤◌}
 use mathlib.Core.Path.{◌≡◌, refl, sym, ap, ◌∙◌}

@@ -1,8 +1,8 @@
 -- Laws of rows' frames:
---   row-counted: a row has as many gateways as it counts, at most eight; for any widths
+--   row_counted: a row has as many gateways as it counts, at most eight; for any widths
 --   row_kept: a row that is not refused keeps its rules
 --   row_lawful: what is read with a row that is not refused keeps its rules
---   row-passes: a row that keeps its rules is not refused
+--   row_passes: a row that keeps its rules is not refused
 -- Assumes nothing.
 use Prim.Native.Nat.{ℕ, zero, suc, ◌+◌, ◌<◌, ◌≤◌}
 use mathlib.Core.Path.{◌≡◌, refl, sym, ap, ◌∙◌}

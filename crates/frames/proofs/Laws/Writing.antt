@@ -1,7 +1,7 @@
 -- The bytes that are written of a box and of a row:
---   length-bytesOfRange, length-bytesOfBox, length-bytesOfRow: how many
---   bytesOfBox-below, bytesOfRow-below: that they are bytes
---   bytesOfBox-says, says-bytesOfBox, bytesOfRow-says, says-bytesOfRow: they say the box and the row, and no others do
+--   length_bytes_of_range, length_bytes_of_box, length_bytes_of_row: how many
+--   bytes_of_box_below, bytes_of_row_below: that they are bytes
+--   bytes_of_box_says, says_bytes_of_box, bytes_of_row_says, says_bytes_of_row: they say the box and the row, and no others do
 -- Assumes nothing.
 use Prim.Native.Nat.{ℕ, zero, suc, ◌+◌, ◌*◌, ◌<◌, ◌≤◌}
 use mathlib.Core.Path.{◌≡◌, refl, sym, ap, ◌∙◌}

@@ -1,12 +1,12 @@
 -- Laws of digits that are read:
---   decimal-value, capital-value, small-value, other-value: the value of 0-9, of A-F, of a-f, and of every other character
---   digit-decides: the test of digits is true exactly of these three ranges
---   bytesOf-pair: the byte of two digits
+--   decimal_value, capital_value, small_value, other_value: the value of 0-9, of A-F, of a-f, and of every other character
+--   digit_decides: the test of digits is true exactly of these three ranges
+--   bytes_of_pair: the byte of two digits
 -- and of digits that are written:
---   digitValue-digitOf, isDigit-digitOf, digitOf-capital: of a value below 16
---   byteOf-digits, digits-capital: of a byte
---   length-lineOf, bytesOf-lineOf, allDigits-lineOf, isLine-lineOf, lineOf-capitals: of some bytes
---   lineOf-bytesOf: a line in capitals is written again from its bytes
+--   digit_value_digit_of, is_digit_digit_of, digit_of_capital: of a value below 16
+--   byte_of_digits, digits_capital: of a byte
+--   length_line_of, bytes_of_line_of, all_digits_line_of, is_line_line_of, line_of_capitals: of some bytes
+--   line_of_bytes_of: a line in capitals is written again from its bytes
 -- That each byte of bs is below 256 is said as (i : ℕ) → get_or bs i 0 < 256.
 -- Assumes nothing.
 use mathlib.Core.Path.{◌≡◌, refl}

@@ -1,8 +1,8 @@
 -- Laws of letters and lines that differ only in case:
---   letter-itself: a byte and itself
---   letter-value, letter-other: the two cases of a letter have one value, and neither is a byte below A
---   case-itself: a list and itself
---   isLine-case, bytesOf-case: such lines are pairs of digits alike, and stand for the same bytes
+--   letter_itself: a byte and itself
+--   letter_value, letter_other: the two cases of a letter have one value, and neither is a byte below A
+--   case_itself: a list and itself
+--   is_line_case, bytes_of_case: such lines are pairs of digits alike, and stand for the same bytes
 -- Assumes nothing.
 use Prim.Native.Nat.{ℕ, ◌+◌, ◌<◌}
 use mathlib.Core.Path.{◌≡◌, refl, sym, ap, ◌∙◌}

@@ -1,11 +1,11 @@
 -- Laws of lines of digits:
---   bytesOf-at, bytesOf-below: which byte stands at a place, and its range
---   length-bytesOf: how many bytes there are
---   bytesOf-drop, bytesOf-take, bytesOf-part: the bytes of what is left of a line, of its start, of a part
---   allDigits-next: whether the characters from a place on are digits, by the first of them and those after it
---   line-length, line-even, bytesOf-line: a line is pairs, and has a first byte
---   line-digits, feed-no-digit: a line is of digits, and a line feed is none
---   noLine-decides: the test of lines is false exactly of what is no line
+--   bytes_of_at, bytes_of_below: which byte stands at a place, and its range
+--   length_bytes_of: how many bytes there are
+--   bytes_of_drop, bytes_of_take, bytes_of_part: the bytes of what is left of a line, of its start, of a part
+--   all_digits_next: whether the characters from a place on are digits, by the first of them and those after it
+--   line_length, line_even, bytes_of_line: a line is pairs, and has a first byte
+--   line_digits, feed_no_digit: a line is of digits, and a line feed is none
+--   no_line_decides: the test of lines is false exactly of what is no line
 -- Assumes nothing.
 use mathlib.Core.Path.{◌≡◌, refl}
 use mathlib.Core.Bool.{true, false, not, ◌&&◌, false≢true, and-eq-true_iff, not-not}

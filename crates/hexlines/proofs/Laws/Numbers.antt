@@ -1,10 +1,10 @@
 -- Laws of numbers, the most significant byte first, for any number of bytes:
---   numberOf-append, numberOf-take: one byte more
---   numberOf-below, field_below, line-field-below: the range of a number, of a field of bytes, of a field of a line
---   field-one: a field of one byte
---   bytes-append, bytes-first, bytes_rest: the bytes of two lists one after the other
---   length-numberBytes, numberBytes-below, numberOf-numberBytes: the bytes of a number, which they say if it is small enough
---   numberBytes-numberOf: the bytes of the number that some bytes say are those bytes
+--   number_of_append, number_of_take: one byte more
+--   number_of_below, field_below, line_field_below: the range of a number, of a field of bytes, of a field of a line
+--   field_one: a field of one byte
+--   bytes_append, bytes_first, bytes_rest: the bytes of two lists one after the other
+--   length_number_bytes, number_bytes_below, number_of_number_bytes: the bytes of a number, which they say if it is small enough
+--   number_bytes_number_of: the bytes of the number that some bytes say are those bytes
 -- That each byte of bs is below 256 is said as (i : ℕ) → get_or bs i 0 < 256.
 -- Assumes nothing.
 use mathlib.Core.Path.{◌≡◌, refl, sym, ap, ◌∙◌}

@@ -1,8 +1,8 @@
 -- Laws of joining, in a tree of parents:
---   joinable-decides, joinable-swap: the test of what can be joined, either way round
---   joined-least: the joined row is the least that is ⪰ both
---   joined-swap, joined-itself: either way round it is the same, and a row joined with itself is that row
---   joined-kept: it keeps the table's rules
+--   joinable_decides, joinable_swap: the test of what can be joined, either way round
+--   joined_least: the joined row is the least that is ⪰ both
+--   joined_swap, joined_itself: either way round it is the same, and a row joined with itself is that row
+--   joined_kept: it keeps the table's rules
 -- Assumes nothing.
 use mathlib.Core.Path.{◌≡◌, sym, ◌∙◌}
 use Prim.Native.Nat.{ℕ}

@@ -1,6 +1,6 @@
 -- The kinds of rows and those of filters, by their numbers:
---   OfRows, OfFilters, row-kind, filter-kind: which numbers are those of which
---   Within, anomaly-within: an anomaly's numbers are those of one of the two blocks
+--   OfRows, OfFilters, row_kind, filter_kind: which numbers are those of which
+--   Within, anomaly_within: an anomaly's numbers are those of one of the two blocks
 -- Assumes nothing.
 use Prim.Native.Nat.{ℕ, zero, suc, ◌+◌, ◌≤◌, ◌<◌}
 use mathlib.Core.Path.{◌≡◌}

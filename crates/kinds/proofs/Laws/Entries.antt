@@ -1,7 +1,7 @@
 -- The entries of a well-formed table are exactly its anomalies:
---   gather-of, gather-next, gather-end, gather-same: lists one after another
---   listed_of, block_of, entries-blocks: what an entry of the list is, one of a block, and which blocks there are
---   entries-exact: no entry more, none less
+--   gather_of, gather_next, gather_end, gather_same: lists one after another
+--   listed_of, block_of, entries_blocks: what an entry of the list is, one of a block, and which blocks there are
+--   entries_exact: no entry more, none less
 -- Assumes nothing.
 use Prim.Native.Nat.{ℕ, zero, suc, ◌+◌, ◌≤◌, ◌<◌}
 use mathlib.Core.Path.{◌≡◌, refl, sym, ap, subst}

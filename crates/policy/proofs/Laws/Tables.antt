@@ -90,7 +90,7 @@ module _ (parents layers masks : List ℕ) (n : ℕ) where
 no_entity_lem : (t : Table) (e : ℕ) → length t.entities ≤ e → entity_at t e ≡ no_entity
 no_entity_lem t e h = get_or-eq_default t.entities no_entity h
 
--- the parents as functions: past the entities both are noParent
+-- the parents as functions: past the entities both are no_parent
 pub parents_same : (t : TableStruct) → Held t → t.entities ≤ length t.parents → parent_in t.parents ≡ parent_of (table_of t)
 parents_same t held room = fun_ext (λ e. elim (dec_lt e t.entities) [ yes h ↦ below e h | no h ↦ past e (omega arith) ])
   where

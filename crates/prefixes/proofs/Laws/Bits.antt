@@ -1,6 +1,6 @@
 -- Laws of an address's bits:
---   bit-before, bit-last: the bits before the last, which are those of the half, and the last
---   all-bits: addresses with the same bits are the same
+--   bit_before, bit_last: the bits before the last, which are those of the half, and the last
+--   all_bits: addresses with the same bits are the same
 -- Assumes nothing.
 use Prim.Native.Nat.{ℕ, zero, suc, ◌+◌, ◌-◌, ◌/◌, ◌%◌, ◌^◌, ◌<◌}
 use mathlib.Core.Path.{◌≡◌, sym, ap, ◌∙◌}

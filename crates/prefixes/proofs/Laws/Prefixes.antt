@@ -1,7 +1,7 @@
 -- What document 02, [5], says of prefixes, for addresses of any width:
---   prefix-block: the addresses of a prefix are those from its own on, as many as the bits past its length can say
---   prefixes-of: the prefixes of a range are what is to be written
---   full-range, one_address: of all addresses, and of one
+--   prefix_block: the addresses of a prefix are those from its own on, as many as the bits past its length can say
+--   prefixes_of: the prefixes of a range are what is to be written
+--   full_range, one_address: of all addresses, and of one
 -- That there are few is `prefixes_few` (`Order`).
 -- Assumes nothing.
 use Prim.Native.Nat.{ℕ, zero, suc, ◌-◌, ◌/◌, ◌%◌, ◌^◌, ◌≤◌, ◌<◌}

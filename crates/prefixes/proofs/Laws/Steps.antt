@@ -1,7 +1,7 @@
 -- Being a prefix and being in one, where addresses have one bit more:
---   in_whole, itself-in, alone-prefix: a prefix of all bits, which has one address, and that a prefix has its own
---   in-half, half_in, half-prefix: a prefix of fewer bits, which has a pair exactly when its half has it
---   raised-in, in-raised, raised-prefix: the prefix of the same bits
+--   in_whole, itself_in, alone_prefix: a prefix of all bits, which has one address, and that a prefix has its own
+--   in_half, half_in, half_prefix: a prefix of fewer bits, which has a pair exactly when its half has it
+--   raised_in, in_raised, raised_prefix: the prefix of the same bits
 -- Assumes nothing.
 use Prim.Native.Nat.{ℕ, suc, ◌*◌, ◌/◌, ◌^◌, ◌≤◌, ◌<◌}
 use mathlib.Core.Path.{◌≡◌, refl, sym, ap, subst, ◌∙◌}

@@ -15,12 +15,12 @@ use Rattle.printing.specs.Limits.{most_input}
 use Rattle.printing.specs.Printed.{refusal_line, entry_line, entry_lines, printed_of, printed, list_printed, struck_printed, rowlist_prints, strike_prints, Prints}
 use Rattle.printing.proofs.Laws.Printed.{printed_text}
 
-module _ (ofTable : Table → List ℕ) (input : List ℕ) (short : length input ≤ most_input) where
-  printed_refused : (number line : ℕ) → parse input ≡ refused_by number line → printed (printed_of ofTable (parse input)) input ≡ refusal_line number line
-  printed_refused number line e = printed_text (printed_of ofTable (parse input)) input short ∙ rw e
+module _ (of_table : Table → List ℕ) (input : List ℕ) (short : length input ≤ most_input) where
+  printed_refused : (number line : ℕ) → parse input ≡ refused_by number line → printed (printed_of of_table (parse input)) input ≡ refusal_line number line
+  printed_refused number line e = printed_text (printed_of of_table (parse input)) input short ∙ rw e
 
-  printed_accepted : (t : Table) → parse input ≡ returned (table_read t) → printed (printed_of ofTable (parse input)) input ≡ ofTable t
-  printed_accepted t e = printed_text (printed_of ofTable (parse input)) input short ∙ rw e
+  printed_accepted : (t : Table) → parse input ≡ returned (table_read t) → printed (printed_of of_table (parse input)) input ≡ of_table t
+  printed_accepted t e = printed_text (printed_of of_table (parse input)) input short ∙ rw e
 
 module _ (input : List ℕ) (short : length input ≤ most_input) where
   pub rowlist_refused : (number line : ℕ) → parse input ≡ refused_by number line → rowlist_prints input ≡ refusal_line number line

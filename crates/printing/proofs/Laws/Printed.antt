@@ -29,11 +29,11 @@ prints_other {result} {other} {before} {after} {n} e p = subst (λ (r : List ℕ
 
 -- ---- an input
 
-module _ (asText input : List ℕ) where
-  pub printed_long : most_input < length input → printed asText input ≡ too_long
+module _ (as_text input : List ℕ) where
+  pub printed_long : most_input < length input → printed as_text input ≡ too_long
   printed_long h = rw (lt-leb (length input) most_input h) refl
 
-  pub printed_text : length input ≤ most_input → printed asText input ≡ asText
+  pub printed_text : length input ≤ most_input → printed as_text input ≡ as_text
   printed_text h = rw (le-leb (length input) most_input h) refl
 
 module _ (input : List ℕ) where

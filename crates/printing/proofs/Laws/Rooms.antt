@@ -19,16 +19,16 @@ use Rattle.printing.proofs.Laws.Lines.{length_lines}
 use Rattle.printing.proofs.Laws.Printed.{printed_long, printed_text}
 
 -- A refusal's line has six bytes.
-printed_room : (ofTable : Table → List ℕ) (input : List ℕ) (n : ℕ) → 6 ≤ n
-    → ((t : Table) → parse input ≡ returned (table_read t) → length input ≤ most_input → length (ofTable t) ≤ n)
-    → length (printed (printed_of ofTable (parse input)) input) ≤ n
-printed_room ofTable input n six room =
+printed_room : (of_table : Table → List ℕ) (input : List ℕ) (n : ℕ) → 6 ≤ n
+    → ((t : Table) → parse input ≡ returned (table_read t) → length input ≤ most_input → length (of_table t) ≤ n)
+    → length (printed (printed_of of_table (parse input)) input) ≤ n
+printed_room of_table input n six room =
     elim (dec_lt most_input (length input)) [
-      | yes l ↦ rw (printed_long (printed_of ofTable (parse input)) input l) (omega arith)
-      | no l ↦ rw (printed_text (printed_of ofTable (parse input)) input (omega arith)) (go (parse input) refl (omega arith))
+      | yes l ↦ rw (printed_long (printed_of of_table (parse input)) input l) (omega arith)
+      | no l ↦ rw (printed_text (printed_of of_table (parse input)) input (omega arith)) (go (parse input) refl (omega arith))
     ]
   where
-    go : (p : Answer Parsed) → parse input ≡ p → length input ≤ most_input → length (printed_of ofTable p) ≤ n
+    go : (p : Answer Parsed) → parse input ≡ p → length input ≤ most_input → length (printed_of of_table p) ≤ n
     go (returned r) e l = room r.table e l
     go (refused_by number line) e l = six
 

@@ -26,7 +26,7 @@ use Rattle.search.specs.Search.{tries, from, search}
 use Rattle.verdicts.specs.Verdicts.{verdict_after}
 use Rattle.covers.specs.Covers.{covers, cover_of}
 use Rattle.kinds.specs.Entries.{entries}
-use Rattle.kinds.specs.Examples.{tableT}
+use Rattle.kinds.specs.Examples.{table_t}
 use Rattle.kinds.proofs.Laws.Examples.{printed}
 use Rattle.listing.specs.Bytes.{bytes}
 use Rattle.analyser.specs.Calls.{check_of, witness_of, list_of, list_written}
@@ -35,19 +35,19 @@ use Rattle.analyser.proofs.Laws.Outputs.{list_short, list_whole}
 
 -- ---- List in 18 and in 17 bytes
 
-T_parsed : parse T ≡ returned (table_read tableT)
+T_parsed : parse T ≡ returned (table_read table_t)
 unfolding range_from parse finish run step take_frame checks grown frame_of frame_of_kind lines_from rest_from refusal entity_rule is_entity is_root all_roots all_zero row_numbers null_rule among inhabited is_line digit_value digit_of
 T_parsed = refl
 
 -- T's entries as bytes
-T_bytes : bytes (entries tableT) ≡ list_of_t
+T_bytes : bytes (entries table_t) ≡ list_of_t
 unfolding bytes
 T_bytes = ap bytes printed
 
 fits_18 : (out : List ℕ) → length out ≡ 18 → (list_of (parse T) out ≡ returned 6) × (list_written (parse T) out ≡ list_of_t)
 fits_18 out h =
     let e = ap length T_bytes in
-    let w = list_whole (parse T) out tableT T_parsed (omega arith) in (
+    let w = list_whole (parse T) out table_t T_parsed (omega arith) in (
       w.0 ∙ ap (λ es. returned (length es)) printed,
       w.1
           ∙ ap (λ (b : List ℕ). b ++ drop (length b) out) T_bytes
@@ -55,7 +55,7 @@ fits_18 out h =
     )
 
 short_17 : (out : List ℕ) → length out ≡ 17 → (list_of (parse T) out ≡ refused_by 8 0) × (list_written (parse T) out ≡ out)
-short_17 out h = let e = ap length T_bytes in list_short (parse T) out tableT T_parsed (omega arith)
+short_17 out h = let e = ap length T_bytes in list_short (parse T) out table_t T_parsed (omega arith)
 
 -- ---- all of them
 

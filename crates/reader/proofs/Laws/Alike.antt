@@ -1,6 +1,6 @@
 -- Texts whose lines have the same bytes are read alike:
 --   SameBytes: two such lines
---   parse-alike: two texts of such lines are the same table, or the same refusal
+--   parse_alike: two texts of such lines are the same table, or the same refusal
 -- Assumes nothing.
 use mathlib.Core.Path.{◌≡◌, refl}
 use mathlib.Core.List.{List, [], ◌∷◌}

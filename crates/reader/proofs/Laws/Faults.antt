@@ -1,5 +1,5 @@
 -- Document 01's table of returns, number by number:
---   Reached, line-rising, line-faults, line-breaks: after the lines before it, the conditions of a line are its faults
+--   Reached, line_rising, line_faults, line_breaks: after the lines before it, the conditions of a line are its faults
 -- Assumes nothing.
 use mathlib.Core.Path.{◌≡◌, refl, sym, ap, ◌∙◌}
 use mathlib.Core.Bool.{Bool, true, false, false≢true, true≢false}

@@ -1,9 +1,9 @@
 -- How the filters and rows of an accepted text are taken:
---   Left, First, left-first: the lines from a place on say some frames, and the first of them says the first
---   FilterPart, filter-part, RowPart, row-part: what the frame's own reader is given of a filter's line, and of a row's, says just the filter or the row
---   Filtered, filtered-start, filtered-more: the first filters of the table stand in the runs, and the lines left say the others and the rows
---   Rowed, rowed-start, rowed-more: so do all filters and the first rows
---   rowed-all: the struct then stands for the table
+--   Left, First, left_first: the lines from a place on say some frames, and the first of them says the first
+--   FilterPart, filter_part, RowPart, row_part: what the frame's own reader is given of a filter's line, and of a row's, says just the filter or the row
+--   Filtered, filtered-start, filtered_more: the first filters of the table stand in the runs, and the lines left say the others and the rows
+--   Rowed, rowed_start, rowed_more: so do all filters and the first rows
+--   rowed_all: the struct then stands for the table
 -- Assumes nothing.
 use mathlib.Core.Path.{◌≡◌, refl, ap, sym, subst, ◌∙◌}
 use mathlib.Core.Bool.{true}

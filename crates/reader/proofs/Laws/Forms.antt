@@ -1,6 +1,6 @@
 -- What the bytes of a line say:
---   isFrame, form-decides: they are read as a frame exactly when they have the form of one
---   frame-said: they are read as just the frame that they say
+--   is_frame, form_decides: they are read as a frame exactly when they have the form of one
+--   frame_said: they are read as just the frame that they say
 -- Assumes nothing.
 use mathlib.Core.Path.{◌≡◌, refl, sym, ap, ◌∙◌}
 use mathlib.Core.Logic.{inl, inr, ◌↔◌}

@@ -1,7 +1,7 @@
 -- What judging the lines of a text one by one comes to:
---   Onward, onward-start, onward-next: the lines from a place on make of the struct's state what the text is
---   ends-refused, ends-unended, ends-early, ends-whole: so the struct stands for it, refused by a line, or at the text's end
---   parses-refused, accepts, parses-filled: the reader that the text comes to, by whether the state is refused
+--   Onward, onward_start, onward_next: the lines from a place on make of the struct's state what the text is
+--   ends_refused, ends_unended, ends_early, ends_whole: so the struct stands for it, refused by a line, or at the text's end
+--   parses_refused, accepts, parses_filled: the reader that the text comes to, by whether the state is refused
 -- Assumes nothing.
 use mathlib.Core.Path.{◌≡◌, refl, ap, sym, subst, ◌∙◌}
 use mathlib.Core.List.{List}

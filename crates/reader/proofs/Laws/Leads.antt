@@ -1,7 +1,7 @@
 -- Frames that are read one after another, each of which may come where it stands:
 --   Leads: each frame is such, by a statement of what was read before it and of the frame, and they lead from p to q
 --   InPlace, Taken: a frame has its place; it is not refused
---   places-lead, rules-lead: the frames of a table with lawful counts have their places; those of a well-formed table are not refused
+--   places_lead, rules_lead: the frames of a table with lawful counts have their places; those of a well-formed table are not refused
 --   one_table: no frames are those of two tables
 -- Assumes nothing.
 use mathlib.Core.Path.{◌≡◌, refl, ap, sym, ◌∙◌}

@@ -1,7 +1,7 @@
 -- Texts that differ only in the case of letters:
---   lines_case, rest-case: so do their lines, one by one, and what stands after their last line feeds
---   text-case: so do the texts of such lines
---   parse-case: they are the same table, or the same refusal
+--   lines_case, rest_case: so do their lines, one by one, and what stands after their last line feeds
+--   text_case: so do the texts of such lines
+--   parse_case: they are the same table, or the same refusal
 -- Assumes nothing.
 use mathlib.Core.Path.{◌≡◌, refl, sym, ap, ◌∙◌}
 use mathlib.Core.Bool.{Bool, true, false}

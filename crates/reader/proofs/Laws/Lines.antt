@@ -1,10 +1,10 @@
 -- Laws of the lines of a text:
---   length-feed, length-other, length-end: how long the line is that goes on at a place, as a loop goes through it
---   length-within, end-within: no line is longer than the text
---   lines-ended, rest_ended: the first line of what follows a place, where a line feed ends it, and what follows it
---   lines-unended, rest-unended: where none ends it, there is no line
---   start-next, start_none: where the line at a place starts
---   start-within, lines-from, line_at: it starts in the text, at the lines from that place on
+--   length_feed, length_other, length_end: how long the line is that goes on at a place, as a loop goes through it
+--   length_within, end_within: no line is longer than the text
+--   lines_ended, rest_ended: the first line of what follows a place, where a line feed ends it, and what follows it
+--   lines_unended, rest_unended: where none ends it, there is no line
+--   start_next, start_none: where the line at a place starts
+--   start_within, lines_from, line_at: it starts in the text, at the lines from that place on
 -- Assumes nothing.
 use mathlib.Core.Path.{◌≡◌, refl, ap, sym, ◌∙◌}
 use mathlib.Core.Bool.{true, false}

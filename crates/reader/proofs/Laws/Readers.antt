@@ -1,10 +1,10 @@
 -- What owning a reader's state tells: the lengths of its arrays, and so that its counts are those of what it has.
---   table-sized: the lengths of the arrays of a reader's table
---   Sized, state-sized: those of the state's
---   parents-lent, layers-lent: they are lent with the count of entities
+--   table_sized: the lengths of the arrays of a reader's table
+--   Sized, state_sized: those of the state's
+--   parents_lent, layers_lent: they are lent with the count of entities
 --   Counted, counted: what has been read has as much as the state counts
---   parents-taken, layers-taken: the parents and layers of what has been read are the first of the state's
---   progressOf, has-own: every state has something
+--   parents_taken, layers_taken: the parents and layers of what has been read are the first of the state's
+--   progress_of, has_own: every state has something
 --   one_more: one thing more is counted
 -- Assumes nothing.
 use mathlib.Core.Path.{◌≡◌, refl, sym, ap, ◌∙◌}

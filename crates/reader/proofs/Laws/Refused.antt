@@ -1,6 +1,6 @@
 -- "The first faulty line counts (lines from 1), there the least number", of every text:
---   refused-exactly: a text is refused by a number at a line exactly when that is its first fault
---   accepted-faultless: a text that is accepted has no fault
+--   refused_exactly: a text is refused by a number at a line exactly when that is its first fault
+--   accepted_faultless: a text that is accepted has no fault
 -- Assumes nothing.
 use mathlib.Core.Path.{◌≡◌, refl, sym, ap, ◌∙◌}
 use mathlib.Core.Bool.{Bool, true, false}

@@ -1,9 +1,9 @@
 -- Rows are the last lines of an accepted text:
 --   RowFrame, RowFrames, RowLine, RowLines: lines that are rows, good for a table
---   rows-counted, rows-said, rows-digits, rows-kept: how many and what such lines say, that they are pairs of digits, and that their rows keep the rules
+--   rows_counted, rows_said, rows_digits, rows_kept: how many and what such lines say, that they are pairs of digits, and that their rows keep the rules
 --   rows_apart: the frames of a table are those before its rows, and its rows'
---   Accepted, accepted-rows, accepted-row: so are the lines of an accepted text, and which line a row's is
---   accepted-lines: how many lines it has
+--   Accepted, accepted_rows, accepted_row: so are the lines of an accepted text, and which line a row's is
+--   accepted_lines: how many lines it has
 -- Assumes nothing.
 use mathlib.Core.Path.{◌≡◌, refl, ap, sym, ◌∙◌}
 use mathlib.Core.Logic.{inl, inr}

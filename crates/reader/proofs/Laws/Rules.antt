@@ -1,6 +1,6 @@
 -- Demand 1, "Every text that keeps the table rules of document 01 is accepted", and no other:
---   accepted-exactly: the reader accepts a text as a table exactly when the text keeps the rules and says the table
---   refused-otherwise: a text that says no table is refused
+--   accepted_exactly: the reader accepts a text as a table exactly when the text keeps the rules and says the table
+--   refused_otherwise: a text that says no table is refused
 -- Assumes nothing.
 use mathlib.Core.Path.{◌≡◌, refl, ap, sym, ◌∙◌}
 use mathlib.Core.Logic.{◌↔◌, inl, inr}

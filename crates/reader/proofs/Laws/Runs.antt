@@ -1,6 +1,6 @@
 -- Laws of what stays along a run of lines:
---   pick-either: what holds of both sides of a choice holds of the choice
---   run-keeps: what every line keeps of a state, a run keeps
+--   pick_either: what holds of both sides of a choice holds of the choice
+--   run_keeps: what every line keeps of a state, a run keeps
 -- Assumes nothing.
 use mathlib.Core.Path.{◌≡◌, refl}
 use mathlib.Core.Bool.{Bool, true, false}

@@ -1,8 +1,8 @@
 -- Frames in their sequence:
 --   so_far_more: the frames of what is read so far, and one frame more that has its place
---   early-frames, floor-there: before the floor, and once it has been read
---   not-among: a frame of another kind is not among frames of one kind
---   entitiesCaps, begins-so-far: the sequence can go on after them, with a table of entities and caps alone where it has not come further
+--   early_frames, floor_there: before the floor, and once it has been read
+--   not_among: a frame of another kind is not among frames of one kind
+--   entities_caps, begins_so_far: the sequence can go on after them, with a table of entities and caps alone where it has not come further
 -- Assumes nothing.
 use mathlib.Core.Path.{◌≡◌, refl, ap, sym, ◌∙◌}
 use mathlib.Core.Logic.{inl, inr}

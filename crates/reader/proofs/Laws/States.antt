@@ -1,8 +1,8 @@
 -- Laws of the reader's states:
---   faultless, faulty, no-frame: what a frame does, by whether a condition is broken
---   fitOf, fitted, frame-misfit, frame-content, frame-grown: the conditions of a frame of any kind, and what it adds
---   kind-own, kind-cases, byteIn: which kind a kind byte is, and that of a frame
---   run-refused: a refusal stays
+--   faultless, faulty, no_frame: what a frame does, by whether a condition is broken
+--   fit_of, fitted, frame_misfit, frame_content, frame_grown: the conditions of a frame of any kind, and what it adds
+--   kind_own, kind_cases, byte_in: which kind a kind byte is, and that of a frame
+--   run_refused: a refusal stays
 -- Assumes nothing.
 use mathlib.Core.Path.{◌≡◌, refl}
 use mathlib.Core.Logic.{◌⊎◌, inl, inr}

@@ -1,11 +1,11 @@
 -- What a state comes to by a line:
 --   goes_to: what comes after, by an equation
 --   Fit, Content: the numbers that refuse a line of some kind
---   fit-by, content-by: what the tests that were made tell of them
---   has-form, has_room: a line that is not refused for them has its length and its place
---   by-misfit, by-content, by_value: what the state comes to, refused or with the line's value
---   moves-going, moves-refused: by whether it is refused
---   step-no-line, step_line: by whether the line is pairs of digits, and by its kind byte
+--   fit_by, content_by: what the tests that were made tell of them
+--   has_form, has_room: a line that is not refused for them has its length and its place
+--   by_misfit, by_content, by_value: what the state comes to, refused or with the line's value
+--   moves_going, moves_refused: by whether it is refused
+--   step_no_line, step_line: by whether the line is pairs of digits, and by its kind byte
 -- Assumes nothing.
 use mathlib.Core.Path.{◌≡◌, sym, ap, subst, ◌∙◌}
 use mathlib.Core.Bool.{Bool, true, false}

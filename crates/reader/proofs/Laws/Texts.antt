@@ -1,11 +1,11 @@
 -- Texts and their lines:
 --   Every, NotFeed, NoFeed, AllNoFeed: characters, and lines of them, with no line feed
---   lines-written, rest-written: the text of such lines has those lines, and nothing after them
---   text-cut, lines-clean: every text is the text of its lines, which are such lines, and what stands after them
---   lines-no-feed, rest-no-feed: no line feed is in a line of a text, nor in what stands after them
+--   lines_written, rest_written: the text of such lines has those lines, and nothing after them
+--   text_cut, lines_clean: every text is the text of its lines, which are such lines, and what stands after them
+--   lines_no_feed, rest_no_feed: no line feed is in a line of a text, nor in what stands after them
 --   line_clean: a line of digits is such a line
---   accepted-text-other-rows, accepted-text-more-rows: other rows in place of an accepted text's own, and rows after it
---   accepted-text-extended: whatever is accepted of an accepted text and a run of row lines is its table with those rows
+--   accepted_text_other_rows, accepted_text_more_rows: other rows in place of an accepted text's own, and rows after it
+--   accepted_text_extended: whatever is accepted of an accepted text and a run of row lines is its table with those rows
 -- Assumes nothing.
 use mathlib.Core.Path.{◌≡◌, refl, ap, sym, subst, ◌∙◌}
 use mathlib.Core.Logic.{inl, inr}

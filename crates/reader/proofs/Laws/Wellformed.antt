@@ -1,10 +1,10 @@
 -- What holds of everything that a reader has read, and so of a text:
---   InFrame, in-range: the numbers of a line's frame are in range
---   kept, never-none: a frame that is not refused has its place in the sequence and keeps its rules, and is a frame
---   growing-frame: what has been read keeps its rules with each frame that is not refused
---   Read, run-read: after n lines the table has n, and they keep the rules
---   accepted-wellformed: an accepted table is well-formed
---   refused-line: a refusal's number is from 1 to the last of a text's, and its line is below 256
+--   InFrame, in_range: the numbers of a line's frame are in range
+--   kept, never_none: a frame that is not refused has its place in the sequence and keeps its rules, and is a frame
+--   growing_frame: what has been read keeps its rules with each frame that is not refused
+--   Read, run_read: after n lines the table has n, and they keep the rules
+--   accepted_wellformed: an accepted table is well-formed
+--   refused_line: a refusal's number is from 1 to the last of a text's, and its line is below 256
 -- Assumes nothing.
 use mathlib.Core.Path.{◌≡◌, refl}
 use mathlib.Core.Bool.{true, false, false≢true}

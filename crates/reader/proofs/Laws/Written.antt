@@ -1,6 +1,6 @@
 -- The line that is written of a row:
---   row_written, row-capitals, row-size: of a row that keeps the table's rules it says the row, in capitals, and how long it is
---   row-own: it is the row's own line, where that is in capitals
+--   row_written, row_capitals, row_size: of a row that keeps the table's rules it says the row, in capitals, and how long it is
+--   row_own: it is the row's own line, where that is in capitals
 -- Assumes nothing.
 use mathlib.Core.Path.{◌≡◌, refl, sym, ap, ◌∙◌}
 use mathlib.Core.Bool.{true}

@@ -1,8 +1,8 @@
 -- Document 02, [2]: the least that is ⪰ two things.
---   lowest-here, lowest-top, lowest-next: the lowest entity ⪰ two, a step at a time
---   lowest-least: it is the least that is ⪰ both, where they have one root; lowest-swap, lowest-itself
---   larger-least: so is the larger of each coefficient; larger-at, larger-swap, larger-itself
---   hull-least: so is the hull of two selectors, over packets; hull-swap, hull-itself; hull-ordered, hull-fits: it keeps the rules of both
+--   lowest_here, lowest_top, lowest_next: the lowest entity ⪰ two, a step at a time
+--   lowest_least: it is the least that is ⪰ both, where they have one root; lowest-swap, lowest-itself
+--   larger_least: so is the larger of each coefficient; larger-at, larger-swap, larger-itself
+--   hull_least: so is the hull of two selectors, over packets; hull-swap, hull-itself; hull-ordered, hull-fits: it keeps the rules of both
 -- Assumes nothing.
 use mathlib.Core.Path.{◌≡◌, refl, sym, ap, ◌∙◌}
 use mathlib.Core.Logic.{inl, inr}

@@ -1,8 +1,8 @@
 -- The numbers of the kept rows:
---   kept-rows: they ascend, and pass the test that they are not dead
+--   kept_rows: they ascend, and pass the test that they are not dead
 --   kept_row: each is a row's
---   alive-decides: the test says whether a row is not dead
---   kept-exactly: they are those of all rows that are not dead
+--   alive_decides: the test says whether a row is not dead
+--   kept_exactly: they are those of all rows that are not dead
 -- Assumes nothing.
 use Prim.Native.Nat.{ℕ, ◌<◌}
 use mathlib.Core.Path.{subst}
