@@ -39,11 +39,9 @@ whole c =
 -- List refuses the text
 refused : tie.Need-returns-in-Refused
 refused c =
-    let p = c in
-    let l = c in
-    let out = l.args.out in
-    let line : Prints (refusal_line c.in-Refused.number c.in-Refused.line) out.now p.put_refusal.new.out p.put_refusal.result = p.put_refusal.ensures in
-    prints_other (rowlist_refused _ _ l.list.new.out _ zeros l.list.ensures.0 _ _ c.in-Refused.is) line
+    let out = c.args.out in
+    let line : Prints (refusal_line c.in-Refused.number c.in-Refused.line) out.now c.put_refusal.new.out c.put_refusal.result = c.put_refusal.ensures in
+    prints_other (rowlist_refused _ _ c.list.new.out _ zeros c.list.ensures.0 _ _ c.in-Refused.is) line
 
 pub put_list_spec : {M : Type 1} → statement M
 put_list_spec =

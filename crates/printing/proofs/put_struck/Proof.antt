@@ -7,21 +7,16 @@ use Rattle.printing.proofs.put_struck.Tie as tie
 -- the output is too short
 short : tie.Need-returns-then-number-eq-SHORT_OUTPUT
 short c =
-    let s = c in
-    strike_short _ _ _ _ s.strike.ensures.0 s.strike.ensures.1 _ _ c.in-Refused.is c.if-number-eq-SHORT_OUTPUT.true
+    strike_short _ _ _ _ c.strike.ensures.0 c.strike.ensures.1 _ _ c.in-Refused.is c.if-number-eq-SHORT_OUTPUT.true
 
 whole : tie.Need-returns-in-Count
 whole c =
-    let s = c in
-    strike_whole _ _ _ _ s.strike.ensures.0 s.strike.ensures.1 _ c.in-Count.is
+    strike_whole _ _ _ _ c.strike.ensures.0 c.strike.ensures.1 _ c.in-Count.is
 
 -- the text is refused
 refused : tie.Need-returns-else-number-eq-SHORT_OUTPUT
 refused c =
-    let p = c in
-    let i = c in
-    let s = c in
-    strike_refusal _ _ _ _ s.strike.ensures.0 s.strike.ensures.1 _ _ c.in-Refused.is i.if-number-eq-SHORT_OUTPUT.false p.put_refusal.ensures
+    strike_refusal _ _ _ _ c.strike.ensures.0 c.strike.ensures.1 _ _ c.in-Refused.is c.if-number-eq-SHORT_OUTPUT.false c.put_refusal.ensures
 
 pub put_struck_spec : {M : Type 1} → statement M
 put_struck_spec =

@@ -5,10 +5,10 @@ use Rattle.printing.proofs.rowlist.Statement.{statement}
 use Rattle.printing.proofs.rowlist.Tie as tie
 
 long : tie.Need-returns-then-input-gt-INPUT
-long c = let p = c in prints_other (rowlist_long _ p.if-input-gt-INPUT.true) p.put.ensures
+long c = prints_other (rowlist_long _ c.if-input-gt-INPUT.true) c.put.ensures
 
 text : tie.Need-returns
-text c = let p = c in prints_other (rowlist_text _ p.if-input-gt-INPUT.false) p.put_list.ensures
+text c = prints_other (rowlist_text _ c.if-input-gt-INPUT.false) c.put_list.ensures
 
 pub rowlist_spec : {M : Type 1} → statement M
 rowlist_spec = tie.close (tie.spec (λ c κs. search rules) (λ c. search rules) long (λ c κs. search rules) (λ c. search rules) text)

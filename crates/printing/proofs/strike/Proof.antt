@@ -5,10 +5,10 @@ use Rattle.printing.proofs.strike.Statement.{statement}
 use Rattle.printing.proofs.strike.Tie as tie
 
 long : tie.Need-returns-then-input-gt-INPUT
-long c = let p = c in prints_other (strike_long _ p.if-input-gt-INPUT.true) p.put.ensures
+long c = prints_other (strike_long _ c.if-input-gt-INPUT.true) c.put.ensures
 
 text : tie.Need-returns
-text c = let p = c in prints_other (strike_text _ p.if-input-gt-INPUT.false) p.put_struck.ensures
+text c = prints_other (strike_text _ c.if-input-gt-INPUT.false) c.put_struck.ensures
 
 pub strike_spec : {M : Type 1} → statement M
 strike_spec = tie.close (tie.spec (λ c κs. search rules) (λ c. search rules) long (λ c κs. search rules) (λ c. search rules) text)

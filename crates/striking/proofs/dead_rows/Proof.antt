@@ -32,25 +32,23 @@ size s = sized s.args.t s.well_formed.0
 
 asked : tie.Need-is_dead-requires I μ
 asked c κs =
-    let l = c in
     let s = c.before.before.before.before.before in
-    lent_asked s.args.t (size s) s.requires.0 s.requires.1 l.loop-i.i c.loop-i-test.true
+    lent_asked s.args.t (size s) s.requires.0 s.requires.1 c.loop-i.i c.loop-i-test.true
 
 again : tie.Need-loop-i-preserved I μ
 again c =
-    let l = c in
     let s = c.before.before.before.before.before.before in
     let t = s.args.t in
     let h = c.loop-i-test.true in
     let n = s.requires.0.rows in
-    let m = l.loop-i.invariant.1 in (
+    let m = c.loop-i.invariant.1 in (
       omega arith,
-      length-set l.loop-i.dead l.loop-i.i c.is_dead.result ∙ m,
-      filled_more false (dead (table_of t)) l.loop-i.dead l.loop-i.i c.is_dead.result (omega arith) l.loop-i.invariant.2
-          (c.is_dead.ensures ∙ ap is_none (lent_verdict t (size s) s.requires.0 l.loop-i.i h)),
+      length-set c.loop-i.dead c.loop-i.i c.is_dead.result ∙ m,
+      filled_more false (dead (table_of t)) c.loop-i.dead c.loop-i.i c.is_dead.result (omega arith) c.loop-i.invariant.2
+          (c.is_dead.ensures ∙ ap is_none (lent_verdict t (size s) s.requires.0 c.loop-i.i h)),
       λ k b.
-          get_or-set_other l.loop-i.dead l.loop-i.i k c.is_dead.result false (λ q. absurd (omega arith))
-          ∙ l.loop-i.invariant.3 k (omega arith),
+          get_or-set_other c.loop-i.dead c.loop-i.i k c.is_dead.result false (λ q. absurd (omega arith))
+          ∙ c.loop-i.invariant.3 k (omega arith),
     )
 
 returns : tie.Need-returns I μ
