@@ -6,3 +6,4 @@ pub mod Joins
 pub mod Prefixes
 pub mod Letters
 pub mod Cases
+pub mod Taken

@@ -1,14 +1,12 @@
 -- Document 01, "The six calls", and document 02, [2] and [5]: the answers of the calls, and their outputs, for every input. Each is a call on x, what reading
 -- the text gives: the text's refusal, else that of the first condition that is broken, else a value. Where lines are handed back, it takes the text too. "The first faulty line counts ..; then 9, 10, 8."
 -- Assumes nothing.
-use Rattle.std.specs.Prelude.{ℕ, ◌+◌, ◌*◌, List, [], ◌∷◌, ◌++◌, ltb, length, get_or}
+use Rattle.std.specs.Prelude.{ℕ, ◌+◌, ◌*◌, List, [], ◌∷◌, ◌++◌, ltb, length, get_or, Option, Some, None}
 use Rattle.base.specs.Outputs.{fits}
 use Rattle.base.specs.Checks.{Check, or_else}
 use Rattle.base.specs.Answers.{Answer, returned, refused_by, told, value_or, wrote, call_on}
 use Rattle.policy.specs.Model.{Packet, Row, Table, lines_before, row_at, parent_of}
 use Rattle.relations.specs.Groups.{winner}
-use Rattle.relations.specs.declared.group.Outcome.{Outcome}
-use Rattle.relations.specs.declared.group.Outcome.TheVariants.{Won, Nobody}
 use Rattle.joining.specs.Joining.{joinable, joined}
 use Rattle.prefixes.specs.Prefixes.{Prefix, prefixes}
 use Rattle.prefixes.specs.Bytes.{address_bytes, prefix_bytes}
@@ -77,9 +75,9 @@ pub data RowOrNobody : Type 0 where
   winning_row : ℕ → RowOrNobody
   nobody_wins : RowOrNobody
 
-abbrev pub outcome_of : Outcome → RowOrNobody
-outcome_of (Won i) = winning_row i
-outcome_of Nobody = nobody_wins
+abbrev pub outcome_of : Option ℕ → RowOrNobody
+outcome_of (Some i) = winning_row i
+outcome_of None = nobody_wins
 
 -- "Winner, of a row naming the group and a probe: the winning row or none."
 unfoldable pub winner_of : Answer Parsed → (k a b : ℕ) → Packet → Answer RowOrNobody

@@ -15,8 +15,9 @@
 
 ghost use Rattle.std.specs.Prelude.{◌≡◌, ◌≤◌, length, take, IfSome};
 
-use analyser::{Checked, Counted, Winner};
+use analyser::Counts;
 use calls::Witness;
+use frames::refusals::Refusal;
 use policy::number::Number;
 use policy::selector::Packet;
 use printing::limits::PRINTED;
@@ -25,13 +26,7 @@ use std::env::{Env, FillError};
 use std::fs::File;
 use std::{fs, io};
 
-// How many bytes a field's number has, and a probe, a couple and a side have digits.
-const ADDRESS: usize = 4;
-
-const PORT: usize = 2;
-
-const PROTOCOL: usize = 1;
-
+// How many digits a probe, a couple and a side have.
 const PROBE_DIGITS: usize = 32;
 
 const COUPLE_DIGITS: usize = 6;
@@ -52,75 +47,30 @@ const BUFFER: usize = 4096;
 // Room for a table's text.
 const LARGE_BUFFER: usize = 65536;
 
-// A call that is asked of each row.
-#[derive(Clone, Copy)]
-enum RowCall {
-    Line,
-    Witness,
-    Mesh,
-}
-
-// A call that is asked questions.
-#[derive(Clone, Copy)]
-enum Call {
-    Winner,
-    Join,
-    Prefixes,
-}
-
-// Writes the text to standard output. A write that fails is passed over.
+// Writes the text to standard output. A write that fails is passed over, here and in what follows.
 fn put_text(rt: &HostRuntime, text: &[u8]) {
     let _ = rt.write_all(text);
 }
 
-// A byte's two digits.
-fn put(rt: &HostRuntime, b: u8) {
-    let mut digits = [0u8; 2];
-    hexlines::put(&[b], &mut digits, 0);
-    put_text(rt, &digits);
-}
-
-// A count or a row's number, at most 128.
-fn put_count(rt: &HostRuntime, n: usize) {
-    put(rt, (n % 256) as u8);
-}
-
-// The digits of a field's number, of `bytes` bytes.
-fn put_number(rt: &HostRuntime, n: Number, bytes: usize) {
-    let mut left = bytes;
-    while 0 < left {
-        left -= 1;
-        put(rt, n.byte(left));
-    }
-}
-
-fn put_number_and_line(rt: &HostRuntime, number: u8, line: u8) {
-    put_text(rt, b"!");
-    put(rt, number);
-    put(rt, line);
-}
-
-fn put_refusal(rt: &HostRuntime, number: u8, line: u8) {
-    put_number_and_line(rt, number, line);
-    put_text(rt, b"\n");
+fn put_refusal(rt: &HostRuntime, r: Refusal) {
+    let _ = println!(rt; "!{:02X}{:02X}", r.number, r.line);
 }
 
 // Prints the counts. Returns how many rows there are: 0 of a text that is refused.
 fn put_check(rt: &HostRuntime, text: &[u8]) -> usize {
     match analyser::check(text) {
-        Checked::Counts {
-            entities,
-            filters,
-            rows,
-        } => {
-            put_count(rt, entities);
-            put_count(rt, filters);
-            put_count(rt, rows);
-            put_text(rt, b"\n");
+        Ok(
+            Counts {
+                entities,
+                filters,
+                rows,
+            },
+        ) => {
+            let _ = println!(rt; "{entities:02X}{filters:02X}{rows:02X}");
             rows
         }
-        Checked::Refused { number, line } => {
-            put_refusal(rt, number, line);
+        Err(r) => {
+            put_refusal(rt, r);
             0
         }
     }
@@ -133,17 +83,19 @@ fn put_line(rt: &HostRuntime, text: &[u8], k: usize) {
 
 fn put_list(rt: &HostRuntime, text: &[u8]) {
     let mut out = [0u8; PRINTED];
-    let n = printing::put_list(text, &mut out);
-    put_text(rt, &out[..n]);
+    if let Ok(n) = printing::put_list(text, &mut out) {
+        put_text(rt, &out[..n]);
+    }
 }
 
+// The digits of a packet's numbers, which are those of an accepted text.
 fn put_packet(rt: &HostRuntime, p: Packet) {
-    put_number(rt, p.source_address, ADDRESS);
-    put_number(rt, p.destination_address, ADDRESS);
-    put_number(rt, p.source_port, PORT);
-    put_number(rt, p.destination_port, PORT);
-    put_number(rt, p.protocol, PROTOCOL);
-    put_text(rt, b"\n");
+    let from = p.source_address.lower_word();
+    let to = p.destination_address.lower_word();
+    let from_port = p.source_port.lower_word();
+    let to_port = p.destination_port.lower_word();
+    let protocol = p.protocol.lower_word();
+    let _ = println!(rt; "{from:08X}{to:08X}{from_port:04X}{to_port:04X}{protocol:02X}");
 }
 
 // Witness's answer, or Mesh's.
@@ -151,30 +103,24 @@ fn put_witness(rt: &HostRuntime, answer: Witness) {
     match answer {
         Witness::Dead => put_text(rt, b"dead\n"),
         Witness::Packet(p) => put_packet(rt, p),
-        Witness::Refused { number, line } => put_refusal(rt, number, line),
+        Witness::Refused { number, line } => put_refusal(rt, Refusal { number, line }),
     }
 }
 
-// The call's answer for row k.
-fn put_row(rt: &HostRuntime, text: &[u8], k: usize, call: RowCall) {
-    match call {
-        RowCall::Line => put_line(rt, text, k),
-        RowCall::Witness => put_witness(rt, analyser::witness_of(text, k)),
-        RowCall::Mesh => put_witness(rt, mesh_call::mesh_of(text, k)),
-    }
-}
-
-// The same for each row, and for one number more.
-fn put_rows(rt: &HostRuntime, text: &[u8], rows: usize, call: RowCall) {
+// A call's answer for each row, and for one number more.
+fn put_rows<F: Fn(usize)>(rows: usize, put: F)
+    requires { F.IsAlwaysCallable put }
+{
     for k in 0..=rows {
-        put_row(rt, text, k, call);
+        put(k);
     }
 }
 
 fn put_strike(rt: &HostRuntime, text: &[u8]) {
     let mut out = [0u8; LARGE_BUFFER];
-    let n = printing::put_struck(text, &mut out);
-    put_text(rt, &out[..n]);
+    if let Ok(n) = printing::put_struck(text, &mut out) {
+        put_text(rt, &out[..n]);
+    }
 }
 
 // Winner's answer, if the line says a probe, and the row that names the group.
@@ -195,106 +141,76 @@ fn put_winner(rt: &HostRuntime, text: &[u8], line: &[u8]) {
         packet,
     };
     match analyser::winner_of(text, hexlines::u8_at(line, 0) as usize, probe) {
-        Winner::Row(i) => {
-            put_count(rt, i);
-            put_text(rt, b"\n");
+        Ok(Some(i)) => {
+            let _ = println!(rt; "{i:02X}");
         }
-        Winner::Nobody => put_text(rt, b"none\n"),
-        Winner::Refused { number, line } => put_refusal(rt, number, line),
+        Ok(None) => put_text(rt, b"none\n"),
+        Err(r) => put_refusal(rt, r),
     }
 }
 
 // The count's digits, or the refusal; and a space.
-fn put_counted(rt: &HostRuntime, answer: Counted) {
-    match answer {
-        Counted::Count(n) => put_count(rt, n),
-        Counted::Refused { number, line } => put_number_and_line(rt, number, line),
-    }
-    put_text(rt, b" ");
+fn put_counted(rt: &HostRuntime, answer: Result<usize, Refusal>) {
+    let _ = match answer {
+        Ok(n) => print!(rt; "{n:02X} "),
+        Err(r) => print!(rt; "!{:02X}{:02X} ", r.number, r.line),
+    };
 }
 
-// Join's answer for two rows, and the output.
-fn put_joined(rt: &HostRuntime, text: &[u8], first: usize, second: usize, out: &mut [u8]) {
+// Join's answer, if the line says a couple, and the output.
+fn put_join(rt: &HostRuntime, text: &[u8], line: &[u8]) {
+    if line.len() != COUPLE_DIGITS {
+        return;
+    }
+    let first = hexlines::u8_at(line, 0) as usize;
+    let second = hexlines::u8_at(line, 1) as usize;
+    let length = hexlines::u8_at(line, 2) as usize;
+    let mut room = [b'.'; JOINED];
+    let out = &mut room[..length];
     put_counted(rt, analyser::join(text, first, second, out));
     put_text(rt, out);
     put_text(rt, b"\n");
 }
 
-// The same, if the line says a couple.
-fn put_join(rt: &HostRuntime, text: &[u8], line: &[u8]) {
-    if line.len() != COUPLE_DIGITS {
-        return;
-    }
-    let length = hexlines::u8_at(line, 2) as usize;
-    let mut out = [b'.'; JOINED];
-    put_joined(
-        rt,
-        text,
-        hexlines::u8_at(line, 0) as usize,
-        hexlines::u8_at(line, 1) as usize,
-        &mut out[..length],
-    );
-}
-
-// The digits of all bytes.
-fn put_digits(rt: &HostRuntime, bytes: &[u8]) {
-    for k in 0..bytes.len() {
-        put(rt, bytes[k]);
-    }
-}
-
-// Prefixes' answer for a row's side, and the output.
-fn put_prefixes(rt: &HostRuntime, text: &[u8], row: usize, side: u8, out: &mut [u8]) {
-    put_counted(rt, analyser::prefixes(text, row, side, out));
-    put_digits(rt, out);
-    put_text(rt, b"\n");
-}
-
-// The same, if the line says a side.
+// Prefixes' answer, if the line says a row's side, and the digits of the output.
 fn put_side(rt: &HostRuntime, text: &[u8], line: &[u8]) {
     if line.len() != SIDE_DIGITS {
         return;
     }
+    let row = hexlines::u8_at(line, 0) as usize;
+    let side = hexlines::u8_at(line, 1);
     let length = hexlines::number_at(line, 2, 2) as usize;
     if PREFIXES < length {
         return;
     }
-    let mut out = [b'.'; PREFIXES];
-    put_prefixes(
-        rt,
-        text,
-        hexlines::u8_at(line, 0) as usize,
-        hexlines::u8_at(line, 1),
-        &mut out[..length],
-    );
-}
-
-// The call's answer to the question, if it is one for that call.
-fn put_question(rt: &HostRuntime, text: &[u8], line: &[u8], call: Call) {
-    match call {
-        Call::Winner => put_winner(rt, text, line),
-        Call::Join => put_join(rt, text, line),
-        Call::Prefixes => put_side(rt, text, line),
+    let mut room = [b'.'; PREFIXES];
+    let out = &mut room[..length];
+    put_counted(rt, analyser::prefixes(text, row, side, out));
+    for b in out.iter() {
+        let _ = print!(rt; "{b:02X}");
     }
+    put_text(rt, b"\n");
 }
 
-// The same for each line.
-fn put_questions(rt: &HostRuntime, text: &[u8], questions: &[u8], call: Call) {
+// A call's answer to each line, if it is a question for that call.
+fn put_questions<F: Fn(&[u8])>(questions: &[u8], put: F)
+    requires { F.IsAlwaysCallable put }
+{
     for k in 0..questions.len() / QUESTION {
-        put_question(rt, text, reader::lines::nth_line(questions, k), call);
+        put(reader::lines::nth_line(questions, k));
     }
 }
 
 fn answer(rt: &HostRuntime, text: &[u8], questions: &[u8]) {
     let rows = put_check(rt, text);
-    put_rows(rt, text, rows, RowCall::Line);
+    put_rows(rows, |k| put_line(rt, text, k));
     put_list(rt, text);
-    put_rows(rt, text, rows, RowCall::Witness);
-    put_rows(rt, text, rows, RowCall::Mesh);
+    put_rows(rows, |k| put_witness(rt, analyser::witness_of(text, k)));
+    put_rows(rows, |k| put_witness(rt, mesh_call::mesh_of(text, k)));
     put_strike(rt, text);
-    put_questions(rt, text, questions, Call::Winner);
-    put_questions(rt, text, questions, Call::Join);
-    put_questions(rt, text, questions, Call::Prefixes);
+    put_questions(questions, |line| put_winner(rt, text, line));
+    put_questions(questions, |line| put_join(rt, text, line));
+    put_questions(questions, |line| put_side(rt, text, line));
 }
 
 // The file that is open for reading; none, with a message, if it can't be opened.
@@ -317,7 +233,10 @@ fn read(mut file: File, buffer: &mut [u8]) -> usize
     ensures fits { result ≤ length buffer.new }
     ensures part { result ≡ length (take result buffer.new) }
 {
-    standard::fill(&mut file, buffer).length
+    match standard::fill(&mut file, buffer) {
+        Ok(n) => n,
+        Err(broken) => broken.length,
+    }
 }
 
 fn answer_files(rt: &HostRuntime, text_path: &[u8], questions_path: &[u8]) {
@@ -337,6 +256,7 @@ fn answer_files(rt: &HostRuntime, text_path: &[u8], questions_path: &[u8]) {
 }
 
 // Puts argument i at the start of buffer. Returns its length, 0 if it is longer than buffer; none if there is no such argument.
+// As it is: a name that is too long is the empty one, which opens nothing, and that is told.
 fn argument(rt: &HostRuntime, i: usize, buffer: &mut [u8]) -> Option<usize>
     ensures fits { IfSome result (λ n. n ≤ length buffer.new) }
     ensures part { IfSome result (λ n. n ≡ length (take n buffer.new)) }

@@ -1,15 +1,12 @@
 -- What the code's structs stand for.
 -- Assumes nothing.
-use Rattle.std.specs.Prelude.{ℕ, ◌≤◌, ◌<◌, ◌≡◌, List, map, get_or, take, drop, length}
+use Rattle.std.specs.Prelude.{ℕ, ◌≤◌, ◌<◌, ◌≡◌, List, map, get_or, take, drop, length, Option, Some, None}
 use Rattle.policy.specs.Limits.{most_rows, most_selectors}
 use Rattle.policy.specs.Model.{Selector}
-use Rattle.policy.specs.Views.{value, packet_of, selector_in}
+use Rattle.policy.specs.Views.{PacketStruct, value, packet_of, selector_in}
 use Rattle.covers.specs.Least.{SearchResult, found, none}
+use Rattle.policy.specs.declared.number.Number.{Number as NumberStruct}
 use Rattle.covers.specs.declared.Boxes.{Boxes}
-use Rattle.covers.specs.declared.Found.{Found}
-use Rattle.covers.specs.declared.Found.TheVariants.{Packet, Nothing}
-use Rattle.covers.specs.declared.Next.{Next}
-use Rattle.covers.specs.declared.Next.TheVariants.{Value, End}
 
 -- What is left of the selector at k past its first f fields.
 abbrev pub box_at : List ℕ → ℕ → ℕ → Selector
@@ -30,17 +27,17 @@ pub record BoxesAre (bounds : List ℕ) (a : Boxes) (f : ℕ) (bs : List Selecto
   pub numbers : BoxNumbers a
   pub same : boxes_at bounds a f ≡ bs
 
--- What the answer of the code stands for.
-abbrev pub result_of : Found → SearchResult
-result_of (Packet p) = found (packet_of p)
-result_of Nothing = none
+-- What is found of a row and boxes stands for: the row's least packet that no box has, or that each packet is in one.
+abbrev pub result_of : Option PacketStruct → SearchResult
+result_of (Some p) = found (packet_of p)
+result_of None = none
 
 -- The value of a field that comes next, or that the field is at its end.
 pub data NextValue : Type 0 where
   comes : ℕ → NextValue
   end : NextValue
 
--- What the code's next value stands for.
-abbrev pub next_of : Next → NextValue
-next_of (Value n) = comes (value n)
-next_of End = end
+-- What the code's next value of a field stands for.
+abbrev pub next_of : Option NumberStruct → NextValue
+next_of (Some n) = comes (value n)
+next_of None = end

@@ -1,4 +1,4 @@
-// The cover of a row: the earlier rows of its group that are ⪰ it in source and destination. The runs of a table are lent, and left unchanged.
+// The cover of a row: the earlier rows of its group that are ⪰ it in source and destination. The table is lent, and left unchanged.
 #![tactic(auto)]
 
 pub mod set;
@@ -11,32 +11,16 @@ ghost use Rattle.covers.specs.Covers.{covers as covers_test, Asked, cover_in};
 
 use base::bit;
 use policy::limits::ROWS;
-use policy::number::Number;
 use policy::row::Row;
-use policy::selector::Packet;
-use policy::table;
-use policy::table::{Bounds, Heads, PerEntity};
+use policy::table::{PerEntity, Table};
 use relations::{entity, group};
 
 // Boxes, by the numbers of their selectors.
+// As it is: an array and its length, handed over by value, since there is no heap; `Bits` and `Field` go through it.
 #[derive(Clone, Copy)]
 pub struct Boxes {
     pub at: [u8; ROWS],
     pub count: usize,
-}
-
-// What is found of a row and boxes: the row's least packet that no box has, or that each packet is in one.
-#[derive(Clone, Copy)]
-pub enum Found {
-    Packet(Packet),
-    Nothing,
-}
-
-// The next value of a field, or that there is none.
-#[derive(Clone, Copy)]
-pub enum Next {
-    Value(Number),
-    End,
 }
 
 // Whether q is of r's group and ⪰ it in source and destination.
@@ -52,18 +36,16 @@ fn covers(parents: &PerEntity, r: Row, q: Row) -> bool
 }
 
 // The rows before i whose selectors cover row i.
-pub fn cover<'a>(parents: &'a PerEntity, heads: &'a Heads, bounds: &'a Bounds, i: usize) -> Boxes
-    requires { Asked parents.now heads.now bounds.now i }
-    ensures { BoxesAre bounds.now result 0 (cover_in parents.now heads.now bounds.now i) }
+pub fn cover(t: &Table, i: usize) -> Boxes
+    requires { Asked t.now.parents t.now.heads t.now.bounds i }
+    ensures { BoxesAre t.now.bounds result 0 (cover_in t.now.parents t.now.heads t.now.bounds i) }
 {
-    let r = table::row_at(heads, bounds, i);
+    let r = t.row(i);
     let mut at = [0u8; ROWS];
     let mut n = 0;
-    let mut j = 0;
-    while j < i {
+    for j in 0..i {
         at[n] = j as u8;
-        n += bit(covers(parents, r, table::row_at(heads, bounds, j)));
-        j += 1;
+        n += bit(covers(&t.parents, r, t.row(j)));
     }
     Boxes { at, count: n }
 }

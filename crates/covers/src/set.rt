@@ -1,12 +1,13 @@
-// Sets of boxes, by the places of a list: bit k for the box at place k. The bounds and the list are lent, and left unchanged.
-ghost use Rattle.std.specs.Prelude.{◌≡◌, ◌-◌, ◌^◌, ◌≤◌, ◌<◌};
-ghost use Rattle.policy.specs.Limits.{field_count, most_rows};
-ghost use Rattle.policy.specs.Views.{value};
-ghost use Rattle.covers.specs.Sets.{In, Numbered, field_of, Narrowed};
+// Sets of boxes, by the places of a list: bit k for the box at place k.
+ghost use Rattle.std.specs.Prelude.{◌≡◌, ◌-◌, ◌^◌, ◌≤◌, ◌<◌, get_or};
+ghost use Rattle.std.specs.Iterator.{at_most};
+ghost use Rattle.policy.specs.Limits.{field_count, most_rows, most_selectors};
+ghost use Rattle.policy.specs.Views.{value, range_of};
+ghost use Rattle.covers.specs.Sets.{In, Numbered, field_of, Narrowed, Steps};
 
-use base::bit;
 use policy::limits::ROWS;
 use policy::number::Number;
+use policy::selector::Range;
 use policy::table;
 use policy::table::Bounds;
 use relations::range;
@@ -19,27 +20,56 @@ pub fn first(count: usize) -> u64
     requires { count ≤ most_rows }
     ensures { result ≡ 2 ^ count - 1 }
 {
-    let mut set = 0;
-    let mut k = 0;
-    while k < count {
-        set = 2 * set + 1;
-        k += 1;
-    }
-    set
+    u64::MAX.checked_shr(u64::BITS - count as u32).unwrap_or(0)
 }
 
-// The boxes of the set whose field f holds v. Those that are not looked at yet are the bits of rest.
-pub fn holding(bounds: &Bounds, at: &Numbers, f: usize, v: Number, set: u64) -> u64
-    requires { (f < field_count) × Numbered at.now set }
-    ensures { Narrowed (field_of bounds.now at.now f) (In set) (value v) (In result) }
-{
-    let mut held = 0;
-    let mut rest = set;
-    while rest != 0 {
-        let j = u64::trailing_zeros(rest) as usize;
-        let i = at[j];
-        held = held | ((bit(range::holds(table::range_at(bounds, i as usize, f), v)) as u64) << j);
-        rest = rest & (rest - 1);
+// The places of the boxes of a set, ascending.
+#[derive(Drop)]
+pub struct Bits(pub u64);
+
+impl Iterator for Bits {
+    type Item = usize;
+
+    ghost next_gives = { λ s r t. Steps s.0 r t.0 };
+
+    ghost remaining = { λ s. at_most s.0 };
+
+    fn next(&mut self) -> Option<usize> {
+        let rest = self.0;
+        if rest == 0 {
+            return None;
+        }
+        self.0 = rest & (rest - 1);
+        Some(rest.trailing_zeros() as usize)
     }
-    held
+}
+
+// A field of listed boxes: the bounds of all selectors, the boxes' numbers, and the field's. What is lent is left unchanged.
+#[derive(Clone, Copy, Drop)]
+pub struct Field<'a> {
+    pub bounds: &'a Bounds,
+    pub at: &'a Numbers,
+    pub f: usize,
+}
+
+impl<'a> Field<'a> {
+    // The range of the box at place j in the field.
+    pub fn range(self, j: usize) -> Range
+        requires { (self.f < field_count) × (j < most_rows) × (get_or self.at.now j 0 < most_selectors) }
+        ensures { range_of result ≡ field_of self.entry.bounds.now self.entry.at.now self.entry.f j }
+    {
+        table::range_at(self.bounds, self.at[j] as usize, self.f)
+    }
+
+    // The boxes of the set whose range holds v.
+    pub fn holding(self, v: Number, set: u64) -> u64
+        requires { (self.f < field_count) × Numbered self.at.now set }
+        ensures { Narrowed (field_of self.entry.bounds.now self.entry.at.now self.entry.f) (In set) (value v) (In result) }
+    {
+        let mut held = 0;
+        for j in Bits(set) {
+            held |= u64::from(range::holds(self.range(j), v)) << j;
+        }
+        held
+    }
 }

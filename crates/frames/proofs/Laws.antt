@@ -1,4 +1,5 @@
 -- The laws that crates above cite.
+pub mod Refusals
 pub mod Parts
 pub mod Numbers
 pub mod Claims

@@ -1,8 +1,7 @@
 -- Document 01's refusal 5: numbers of entities and of roots. `parents` are those of the entities read so far, by number.
 -- Assumes nothing.
-use Rattle.std.specs.Prelude.{ℕ, ◌≤◌, ◌≡◌, Bool, ◌&&◌, List, eqb, ltb, length, get_or}
+use Rattle.std.specs.Prelude.{ℕ, Bool, ◌&&◌, List, eqb, ltb, length, get_or}
 use Rattle.base.specs.Lists.{all_pass}
-use Rattle.policy.specs.Limits.{most_entities}
 use Rattle.policy.specs.Model.{no_parent}
 
 -- The number is an entity's.
@@ -16,8 +15,3 @@ is_root parents e = ltb e (length parents) && eqb (get_or parents e 0) no_parent
 -- Each number is a root's.
 unfoldable pub all_roots : List ℕ → List ℕ → Bool
 all_roots parents gs = all_pass (is_root parents) gs
-
--- The lent list has a number for each entity that there may be, and there are `entities` of them.
-pub record Lent (per_entity : List ℕ) (entities : ℕ) : Type 0 where
-  pub full : length per_entity ≡ most_entities
-  pub few : entities ≤ most_entities

@@ -21,7 +21,7 @@ pub fn has_place(entities: usize, caps: usize, technology: u8) -> bool
     requires { caps ≤ technologies }
     ensures { result ≡ cap_place entities caps technology }
 {
-    (0 < entities) & ((caps < TECHNOLOGIES) & (technology as usize == caps + 1))
+    0 < entities && caps < TECHNOLOGIES && technology as usize == caps + 1
 }
 
 // The technology that is capped, or 0 where the part is empty.

@@ -16,10 +16,11 @@ pub fn has_length(part: &[u8]) -> bool
 }
 
 // Whether the sequence can go on with the floor, after `caps` caps; `floored` is 1 if it has been read, else 0.
+// As it is: a number, since has_place promises floor_place of each.
 pub fn has_place(caps: usize, floored: u8) -> bool
     ensures { result ≡ floor_place caps floored }
 {
-    (caps == TECHNOLOGIES) & (floored == 0)
+    caps == TECHNOLOGIES && floored == 0
 }
 
 // The floor that the part says.

@@ -11,17 +11,20 @@ use policy::row::Coefficients;
 use policy::selector::{Range, Selector};
 
 // The byte at a place, or 0 where the part has none.
+#[tactic(auto, using(hexlines::proofs::Laws::Lines::length_bytes_of, std::proofs::lemmas::List::get_or_past))]
 pub fn byte_or_zero(part: &[u8], at: usize) -> u8
     requires { at < 256 }
     ensures { result ≡ get_or (bytes_of part.now) at 0 }
 {
-    if part.len() / 2 <= at {
-        return 0;
+    if at < part.len() / 2 {
+        hexlines::u8_at(part, at)
+    } else {
+        0
     }
-    hexlines::u8_at(part, at)
 }
 
 // Whether the part is `n` bytes.
+#[tactic(auto, using(hexlines::proofs::Laws::Lines::length_bytes_of))]
 pub fn has_bytes(part: &[u8], n: usize) -> bool
     ensures { result ≡ eqb (length (bytes_of part.now)) n }
 {
@@ -49,6 +52,7 @@ pub fn box_bytes(address: usize) -> usize
 }
 
 // The low and the high of a field of `width` bytes, from place at on.
+#[tactic(auto, unfolding(crate::specs::Parts::range_from))]
 fn range(part: &[u8], at: usize, width: usize) -> Range
     requires { (2 * (at + width + width) ≤ length part.now) × (width ≤ most_width) }
     ensures { range_of result ≡ range_from at width (bytes_of part.now) }
@@ -80,11 +84,7 @@ pub fn put_bytes(from: &[u8], bytes: &mut [u8], at: usize)
     requires { at + length from.now ≤ length bytes.old }
     ensures { bytes.new ≡ sets bytes.old at from.now }
 {
-    let mut k = 0;
-    while k < from.len() {
-        bytes[at + k] = from[k];
-        k += 1;
-    }
+    bytes[at..at + from.len()].copy_from_slice(from);
 }
 
 // Writes the low and the high of a field of `width` bytes into bytes from place at on. The rest of bytes is unchanged.

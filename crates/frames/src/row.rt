@@ -8,15 +8,15 @@ ghost use Rattle.hexlines.specs.Lines.{bytes_of};
 ghost use Rattle.policy.specs.Limits.{most_gateways};
 ghost use Rattle.policy.specs.Views.{coefficients_of, row_of};
 ghost use Rattle.frames.specs.Parts.{most_width, box_of};
-ghost use Rattle.frames.specs.Numbers.{Lent};
+ghost use Rattle.frames.specs.Views.{fault_of};
 ghost use Rattle.frames.specs.Rows.{count_place, row_length, row_frame, bytes_of_row, line_of_row, row_place, row_numbers, null_rule, row_content};
 
+use crate::refusals::Reason;
 use crate::widths::{MOST_WIDTH, PORT, PROTOCOL};
 use crate::{numbers, parts, refusals};
-use base::Written;
+use base::{Short, Written};
 use policy::limits::{GATEWAYS, ROWS, TECHNOLOGIES};
 use policy::row::{Coefficients, Gateways, Row};
-use policy::table::PerEntity;
 use relations::selector;
 
 // The place of the coefficients, and that of the box.
@@ -39,6 +39,7 @@ fn count_place(address: usize) -> usize
 }
 
 // Whether the part has a row's length, and no more than eight gateways.
+#[tactic(auto, using(hexlines::proofs::Laws::Lines::length_bytes_of))]
 pub fn has_length(part: &[u8], address: usize) -> bool
     requires { address ≤ most_width }
     ensures { result ≡ row_length (box_of address) (bytes_of part.now) }
@@ -46,14 +47,15 @@ pub fn has_length(part: &[u8], address: usize) -> bool
     let bytes = part.len() / 2;
     let at = count_place(address);
     let n = parts::byte_or_zero(part, at) as usize;
-    (at < bytes) & ((n <= GATEWAYS) & (bytes == at + 1 + n))
+    at < bytes && n <= GATEWAYS && bytes == at + 1 + n
 }
 
 // Whether the sequence can go on with a row, after `rows` rows; `floored` is 1 if the floor has been read, else 0.
+// As it is: a number, since has_place promises row_place of each.
 pub fn has_place(floored: u8, rows: usize) -> bool
     ensures { result ≡ row_place floored rows }
 {
-    (floored == 1) & (rows < ROWS)
+    floored == 1 && rows < ROWS
 }
 
 // The gateways, n bytes from place at on, and zeros.
@@ -62,10 +64,8 @@ fn gateways(part: &[u8], at: usize, n: usize) -> Gateways
     ensures { take n result ≡ take n (drop at (bytes_of part.now)) }
 {
     let mut g = [0u8; GATEWAYS];
-    let mut k = 0;
-    while k < n {
+    for k in 0..n {
         g[k] = hexlines::u8_at(part, at + k);
-        k += 1;
     }
     g
 }
@@ -91,49 +91,44 @@ pub fn read(part: &[u8], address: usize) -> Row
 }
 
 // Whether holder, source, destination, technology and gateways are numbers that there are.
-fn has_numbers(parents: &PerEntity, count: usize, r: Row) -> bool
-    requires { Lent parents.now count }
-    ensures { result ≡ row_numbers (take count parents.now) (row_of r) }
+#[tactic(auto, unfolding(crate::specs::Rows::row_numbers, crate::specs::Numbers::is_entity))]
+fn has_numbers(parents: &[u8], r: Row) -> bool
+    ensures { result ≡ row_numbers parents.now (row_of r) }
 {
     let n = r.gateway_count();
-    let g = r.gateways;
-    numbers::is_root(parents, count, r.holder)
-        & (numbers::is_entity(count, r.source)
-            & (numbers::is_entity(count, r.destination)
-                & ((r.technology as usize <= TECHNOLOGIES)
-                    & numbers::all_roots(parents, count, g, n))))
+    numbers::is_root(parents, r.holder)
+        && numbers::is_entity(parents, r.source)
+        && numbers::is_entity(parents, r.destination)
+        && r.technology as usize <= TECHNOLOGIES
+        && numbers::all_roots(parents, &r.gateways[..n])
 }
 
 // Whether the coefficients are allowed with the technology: NULL has none above 0.
+#[tactic(auto, unfolding(crate::specs::Rows::null_rule, crate::specs::Rows::all_zero))]
 fn keeps_null_rule(technology: u8, c: Coefficients) -> bool
     ensures { result ≡ null_rule technology (coefficients_of c) }
 {
-    (technology != 0) | ((c.header == 0) & ((c.payload == 0) & (c.confidentiality == 0)))
+    technology != 0 || c.header == 0 && c.payload == 0 && c.confidentiality == 0
 }
 
-// The number of the first rule that the row's content breaks, or 0. The parents of the first `count` entities are lent.
-pub fn broken(parents: &PerEntity, count: usize, r: Row) -> u8
-    requires { Lent parents.now count }
-    ensures { result ≡ refusal (row_content (take count parents.now) (row_of r)) }
+// Ok, or why the row is refused, by the first rule that its content breaks. The parents are those of the entities read so far.
+#[tactic(auto, unfolding(base::specs::Checks::refusal))]
+pub fn broken(parents: &[u8], r: Row) -> Result<(), Reason>
+    ensures { fault_of result ≡ refusal (row_content parents.now (row_of r)) }
 {
-    let null = refusals::or_else(
-        keeps_null_rule(r.technology, r.coefficients),
-        refusals::PROTECTED_NULL,
-        0,
-    );
-    let empty = refusals::or_else(selector::inhabited(r.selector), refusals::EMPTY_RANGE, null);
-    refusals::or_else(has_numbers(parents, count, r), refusals::BAD_NUMBER, empty)
+    refusals::keep(has_numbers(parents, r), Reason::BadNumber)?;
+    refusals::keep(selector::inhabited(r.selector), Reason::EmptyRange)?;
+    let allowed = keeps_null_rule(r.technology, r.coefficients);
+    refusals::keep(allowed, Reason::ProtectedNull)
 }
 
-// Writes the row's frame, the kind byte first, into bytes from its start. Returns how many bytes it has. The rest of bytes is unchanged.
-fn write(r: Row, kind: u8, address: usize, bytes: &mut [u8]) -> usize
+// Writes the row's frame, the kind byte first, to the start of bytes, and returns that part of them.
+fn write<'a>(r: Row, kind: u8, address: usize, bytes: &'a mut [u8]) -> &'a [u8]
     requires { (address ≤ most_width) × (count_place (box_of address) + 2 + most_gateways ≤ length bytes.old) }
-    ensures stores { bytes.new ≡ sets bytes.old 0 (kind ∷ bytes_of_row (box_of address) (row_of r)) }
-    ensures counts { result ≡ length (kind ∷ bytes_of_row (box_of address) (row_of r)) }
+    ensures { result.now ≡ kind ∷ bytes_of_row (box_of address) (row_of r) }
 {
     let at = 1 + count_place(address);
     let n = r.gateway_count();
-    let g = r.gateways;
     parts::put_bytes(
         &[
             kind,
@@ -149,9 +144,9 @@ fn write(r: Row, kind: u8, address: usize, bytes: &mut [u8]) -> usize
         0,
     );
     parts::put_selector(r.selector, address, bytes, 1 + BOX);
-    parts::put_bytes(&[n as u8], bytes, at);
-    parts::put_bytes(&g[..n], bytes, at + 1);
-    at + 1 + n
+    bytes[at] = n as u8;
+    parts::put_bytes(&r.gateways[..n], bytes, at + 1);
+    &bytes[..at + 1 + n]
 }
 
 // Writes the row's line, in capitals and without line feed, to the start of out, if there is room for it. The rest of out is unchanged.
@@ -160,10 +155,11 @@ pub fn put_line(r: Row, kind: u8, address: usize, out: &mut [u8]) -> Written
     ensures { Writes (line_of_row kind (box_of address) (row_of r)) out.old out.new result }
 {
     let mut bytes = [0u8; ROW_BYTES];
-    let n = write(r, kind, address, &mut bytes);
-    if out.len() < 2 * n {
-        return Written::Short;
+    let frame = write(r, kind, address, &mut bytes);
+    let length = 2 * frame.len();
+    if out.len() < length {
+        return Err(Short);
     }
-    hexlines::put(&bytes[..n], out, 0);
-    Written::Count(2 * n)
+    hexlines::put(frame, out, 0);
+    Ok(length)
 }

@@ -2,6 +2,7 @@
 pub mod Lists
 pub mod Placed
 pub mod Roots
+pub mod Found
 pub mod Pairs
 pub mod Filters
 pub mod Rows

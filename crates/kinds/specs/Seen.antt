@@ -2,13 +2,11 @@
 -- Assumes nothing.
 use Rattle.std.specs.Prelude.{ℕ, Bool, List, length}
 use Rattle.policy.specs.Model.{Coefficients, Filter, Table, entity_at, filter_at, parent_of}
-use Rattle.policy.specs.Views.{selector_in, selector_of}
-use Rattle.policy.specs.declared.selector.Selector.{Selector as SelectorStruct}
+use Rattle.policy.specs.Views.{SelectorStruct, selector_in, selector_of}
 use Rattle.verdicts.specs.Verdicts.{dead}
-use Rattle.kinds.specs.Views.{Placed, placed_at, from_in, to_in, visited_of}
+use Rattle.kinds.specs.Views.{Placed, placed_at, from_in, to_in}
 use Rattle.kinds.specs.Tests.{pair_of, goes_on, chains, alternative_path}
 use Rattle.kinds.specs.declared.pair.Pair.{Pair}
-use Rattle.kinds.specs.declared.path.Visited.{Visited}
 
 pub record Seen : Type 0 where
   pub up : ℕ → ℕ
@@ -43,11 +41,11 @@ pair_in s i j = pair_of s.up i j (s.placed i) (s.placed j)
 
 -- The chain search over the roots and the selectors that are lent.
 module _ (bounds roots : List ℕ) where
-  abbrev pub goes_on_in : (j a : ℕ) → Visited → SelectorStruct → Bool
-  goes_on_in j a visited s = goes_on (from_in roots) (to_in roots) (selector_in bounds) j a (visited_of visited) (selector_of s)
+  abbrev pub goes_on_in : (j a : ℕ) → List ℕ → SelectorStruct → Bool
+  goes_on_in j a visited s = goes_on (from_in roots) (to_in roots) (selector_in bounds) j a visited (selector_of s)
 
-  abbrev pub chains_in : (rows left b a : ℕ) → Visited → SelectorStruct → Bool
-  chains_in rows left b a visited s = chains (from_in roots) (to_in roots) (selector_in bounds) rows left b a (visited_of visited) (selector_of s)
+  abbrev pub chains_in : (rows left b a : ℕ) → List ℕ → SelectorStruct → Bool
+  chains_in rows left b a visited s = chains (from_in roots) (to_in roots) (selector_in bounds) rows left b a visited (selector_of s)
 
   abbrev pub alternative_path_in : (rows i : ℕ) → Bool
   alternative_path_in rows i = alternative_path (from_in roots) (to_in roots) (selector_in bounds) rows i

@@ -1,6 +1,6 @@
 -- A row with the roots of its two ends, which most kinds look at, and what the code's structs and the runs that it lends stand for.
 -- Assumes nothing.
-use Rattle.std.specs.Prelude.{ℕ, ◌+◌, ◌*◌, ◌/◌, ◌%◌, ◌<◌, ◌≡◌, Bool, true, false, List, ◌∷◌, eqb, get_or, take}
+use Rattle.std.specs.Prelude.{ℕ, ◌+◌, ◌*◌, ◌/◌, ◌%◌, ◌<◌, ◌≡◌, Bool, true, false, List, eqb, get_or}
 use Rattle.policy.specs.Limits.{most_entities, most_rows}
 use Rattle.policy.specs.Model.{Row, Table, row_at}
 use Rattle.policy.specs.Views.{parent_in, row_of, row_in}
@@ -9,7 +9,6 @@ use Rattle.relations.specs.Selectors.{overlaps}
 use Rattle.base.specs.Lists.{filled}
 use Rattle.kinds.specs.Meanings.{source_root, destination_root}
 use Rattle.kinds.specs.declared.placed.Placed.{Placed as PlacedStruct}
-use Rattle.kinds.specs.declared.path.Visited.{Visited}
 
 -- A row, root(s) and root(d).
 pub record Placed : Type 0 where
@@ -60,13 +59,3 @@ pub record Rooted (parents heads bounds : List ℕ) (rows : ℕ) (roots : List �
 pub record Ends (heads bounds : List ℕ) (rows : ℕ) : Type 0 where
   pub source : (i : ℕ) → i < rows → (row_in heads bounds i).source < most_entities
   pub destination : (i : ℕ) → i < rows → (row_in heads bounds i).destination < most_entities
-
--- ---- the roots that a chain has visited, the last first
-
-abbrev pub visited_of : Visited → List ℕ
-visited_of v = take v.count v.at
-
--- The roots with one more, and how many they are.
-pub record Grown (v w : Visited) (x : ℕ) : Type 0 where
-  pub roots : visited_of w ≡ x ∷ visited_of v
-  pub count : w.count ≡ v.count + 1

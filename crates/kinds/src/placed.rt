@@ -6,11 +6,11 @@ ghost use Rattle.kinds.specs.Views.{placed_of, placed_in, Ends, Rooted};
 
 use policy::limits::ROWS;
 use policy::row::Row;
-use policy::table;
-use policy::table::{Bounds, Heads, PerEntity};
+use policy::table::Table;
 use relations::entity;
 
 // Two roots for each row: root(s), then root(d).
+// As it is: one run of bytes, as `placed_in` and `chains_in` read it.
 pub type Roots = [u8; 2 * ROWS];
 
 // A row, root(s) and root(d).
@@ -22,34 +22,27 @@ pub struct Placed {
 }
 
 // Row i with its roots.
-pub fn placed_at<'a>(heads: &'a Heads, bounds: &'a Bounds, roots: &'a Roots, i: usize) -> Placed
+pub fn placed_at(t: &Table, roots: &Roots, i: usize) -> Placed
     requires { i < most_rows }
-    ensures { placed_of result ≡ placed_in heads.now bounds.now roots.now i }
+    ensures { placed_of result ≡ placed_in t.now.heads t.now.bounds roots.now i }
 {
     Placed {
-        row: table::row_at(heads, bounds, i),
+        row: t.row(i),
         from: roots[2 * i],
         to: roots[2 * i + 1],
     }
 }
 
-// The roots of the sources and destinations of the first `rows` rows; past them zeros.
-pub fn roots_of<'a>(
-    parents: &'a PerEntity,
-    heads: &'a Heads,
-    bounds: &'a Bounds,
-    rows: usize,
-) -> Roots
-    requires { Parents parents.now × (rows ≤ most_rows) × Ends heads.now bounds.now rows }
-    ensures { Rooted parents.now heads.now bounds.now rows result }
+// The roots of the sources and destinations of the table's rows; past them zeros.
+pub fn roots_of(t: &Table) -> Roots
+    requires { Parents t.now.parents × (t.now.rows ≤ most_rows) × Ends t.now.heads t.now.bounds t.now.rows }
+    ensures { Rooted t.now.parents t.now.heads t.now.bounds t.now.rows result }
 {
     let mut roots = [0u8; 2 * ROWS];
-    let mut i = 0;
-    while i < rows {
-        let r = table::row_at(heads, bounds, i);
-        roots[2 * i] = entity::root(parents, r.source);
-        roots[2 * i + 1] = entity::root(parents, r.destination);
-        i += 1;
+    for i in 0..t.rows {
+        let r = t.row(i);
+        roots[2 * i] = entity::root(&t.parents, r.source);
+        roots[2 * i + 1] = entity::root(&t.parents, r.destination);
     }
     roots
 }

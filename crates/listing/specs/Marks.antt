@@ -1,6 +1,6 @@
 -- The kinds that hold of a row, of two, or of two filters, as a number: bit k for kind k.
 -- Assumes nothing.
-use Rattle.std.specs.Prelude.{ℕ, ◌+◌, ◌*◌, ◌≤◌, ◌<◌, ◌≡◌, Bool, ◌&&◌, ◌||◌, List, [], ◌∷◌, ◌++◌, map, ltb, length, get_or}
+use Rattle.std.specs.Prelude.{ℕ, ◌+◌, ◌*◌, ◌≤◌, ◌<◌, ◌≡◌, Bool, ◌&&◌, ◌||◌, List, [], ◌∷◌, ◌++◌, map, ltb, length, get_or, take}
 use Rattle.std.specs.Int.Bits.{bit_or}
 use Rattle.std.specs.Int.Count.{ones}
 use Rattle.std.proofs.lemmas.List.Edits.{sets}
@@ -10,6 +10,7 @@ use Rattle.policy.specs.Limits.{most_entities, technologies, most_filters, most_
 use Rattle.policy.specs.Model.{Row}
 use Rattle.policy.specs.Views.{parent_in, row_in, rows_in, coefficients_of, filter_in}
 use Rattle.policy.specs.Wellformed.{Ordered}
+use Rattle.policy.specs.declared.table.Table.{Table}
 use Rattle.relations.specs.Entities.{Parents}
 use Rattle.base.specs.Lists.{tabulate}
 use Rattle.verdicts.specs.Verdicts.{verdict_after, is_none}
@@ -19,7 +20,6 @@ use Rattle.kinds.specs.Seen.{Seen}
 use Rattle.kinds.specs.Kinds.{kind_count, no_second, row_tests, pair_tests, filter_tests}
 use Rattle.kinds.specs.Entries.{Entry, entry, gather, sum, Block}
 use Rattle.listing.specs.declared.put.Block.{Block as BlockStruct}
-use Rattle.listing.specs.declared.marks.Alone.{Alone}
 
 -- ---- what is asked of the rows that are lent
 
@@ -32,15 +32,15 @@ pub record GoodRow (r : Row) : Type 0 where
 abbrev pub GoodRows : List ℕ → List ℕ → ℕ → Type 0
 GoodRows heads bounds rows = (i : ℕ) → i < rows → GoodRow (row_in heads bounds i)
 
--- A row alone, with its roots.
-pub record GoodAlone (parents heads bounds roots : List ℕ) (a : Alone) : Type 0 where
-  pub tree : Parents parents
-  pub row : GoodRow (row_in heads bounds a.i)
-  pub few : a.rows ≤ most_rows
-  pub place : a.i < most_rows
-  pub few_filters : a.filters ≤ most_filters
-  pub from : from_in roots a.i < most_entities
-  pub to : to_in roots a.i < most_entities
+-- Row i of a table alone, with its roots.
+pub record GoodAlone (t : Table) (roots : List ℕ) (i : ℕ) : Type 0 where
+  pub tree : Parents t.parents
+  pub row : GoodRow (row_in t.heads t.bounds i)
+  pub few : t.rows ≤ most_rows
+  pub place : i < most_rows
+  pub few_filters : t.filters ≤ most_filters
+  pub from : from_in roots i < most_entities
+  pub to : to_in roots i < most_entities
 
 -- Row i of `rows` rows.
 pub record GoodAmong (parents heads bounds : List ℕ) (rows i : ℕ) : Type 0 where
@@ -51,24 +51,24 @@ pub record GoodAmong (parents heads bounds : List ℕ) (rows i : ℕ) : Type 0 w
 
 -- ---- the marks
 
--- What the tests of the kinds look at, of what is lent, and the kinds of a row alone.
-module _ (parents masks filter_roots filter_actions heads bounds roots : List ℕ) (a : Alone) where
+-- What the tests of the kinds look at, of a table that is lent, and the kinds of row i alone.
+module _ (t : Table) (roots : List ℕ) (i : ℕ) where
   abbrev pub seen_in : Seen
   seen_in =
       record {
-        up = parent_in parents;
-        mask = λ e. get_or masks e 0;
-        caps = map coefficients_of a.caps;
-        floor = coefficients_of a.floor;
-        filters = a.filters;
-        filter = filter_in filter_roots filter_actions bounds;
-        rows = a.rows;
-        placed = placed_in heads bounds roots;
-        dead = λ i. is_none (verdict_after (parent_in parents) (rows_in heads bounds i) (row_in heads bounds i));
+        up = parent_in t.parents;
+        mask = λ e. get_or t.masks e 0;
+        caps = map coefficients_of (take technologies t.caps);
+        floor = coefficients_of t.floor;
+        filters = t.filters;
+        filter = filter_in t.filter_roots t.filter_actions t.bounds;
+        rows = t.rows;
+        placed = placed_in t.heads t.bounds roots;
+        dead = λ j. is_none (verdict_after (parent_in t.parents) (rows_in t.heads t.bounds j) (row_in t.heads t.bounds j));
       }
 
   abbrev pub alone_marks : ℕ
-  alone_marks = bits_of (row_tests seen_in a.i)
+  alone_marks = bits_of (row_tests seen_in i)
 
 -- The kinds of rows i and j.
 abbrev pub pair_marks : (parents heads bounds roots : List ℕ) (i j : ℕ) → ℕ

@@ -1,15 +1,14 @@
 // Entries written one after another, three bytes each.
-ghost use Rattle.std.specs.Prelude.{◌≤◌, ◌<◌, length};
+ghost use Rattle.std.specs.Prelude.{◌≤◌, ◌<◌, [], ◌∷◌, length, get_or};
 ghost use Rattle.policy.specs.Limits.{most_rows};
 ghost use Rattle.kinds.specs.Kinds.{kind_count};
-ghost use Rattle.listing.specs.Bytes.{Room, Put};
-ghost use Rattle.listing.specs.Marks.{listed_if, pairs_marked, kind_marked, thing_marked, block_marked, block_of, BlockFits};
+ghost use Rattle.kinds.specs.Entries.{entry};
+ghost use Rattle.listing.specs.Bytes.{Room, Appends};
+ghost use Rattle.listing.specs.Marks.{kind_marked, block_marked, block_of, BlockFits};
 
 use crate::limits::ENTRY_BYTES;
-use crate::marks;
-use crate::marks::{Marks, PairMarks};
+use crate::marks::Marks;
 use kinds::numbers;
-use policy::limits::ROWS;
 
 // A block of entries is of `things` things, rows or filters, and of `kinds` kinds from `kind` on.
 #[derive(Clone, Copy)]
@@ -19,106 +18,48 @@ pub struct Block {
     pub kinds: u8,
 }
 
-// Writes the entry after n others, if it is listed. Returns how many there are then; the rest of out is unchanged.
-fn put(out: &mut [u8], n: usize, i: u8, kind: u8, j: u8, listed: bool) -> usize
-    requires { Room (length out.old) n (listed_if listed i kind j) }
-    ensures { Put out.old n out.new result (listed_if listed i kind j) }
-{
-    if listed {
-        let at = ENTRY_BYTES * n;
-        out[at] = i;
-        out[at + 1] = kind;
-        out[at + 2] = j;
-        return n + 1;
-    }
-    n
+// A buffer, and how many entries stand at its start.
+#[derive(Drop)]
+pub struct Writer<'a> {
+    pub out: &'a mut [u8],
+    pub n: usize,
 }
 
-// Writes the entries of thing i and a kind with each of `things` things, after n others. Returns how many there are then; the rest of out is unchanged.
-fn put_pairs<'a>(
-    out: &'a mut [u8],
-    n: usize,
-    i: u8,
-    kind: u8,
-    pairs: &'a PairMarks,
-    things: usize,
-) -> usize
-    requires { Room (length out.old) n (pairs_marked pairs.now things i kind) × (i < things) × (things ≤ most_rows) × (kind ≤ kind_count) }
-    ensures { Put out.old n out.new result (pairs_marked pairs.now things i kind) }
-{
-    let at = ROWS * i as usize;
-    let mut m = n;
-    let mut j = 0;
-    while j < things {
-        m = put(out, m, i, kind, j as u8, marks::marked(pairs[at + j], kind));
-        j += 1;
+impl Writer<'_> {
+    // Writes an entry after the others. The rest of the buffer is unchanged.
+    fn put(&mut self, i: u8, kind: u8, j: u8)
+        requires { Room (length self.old.out.now) self.old.n (entry i kind j ∷ []) }
+        ensures { Appends self.old self.new (entry i kind j ∷ []) }
+    {
+        let at = ENTRY_BYTES * self.n;
+        self.out[at..at + ENTRY_BYTES].copy_from_slice(&[i, kind, j]);
+        self.n += 1;
     }
-    m
-}
 
-// Writes the entries of thing i and a kind, with each of `things` things and then alone, after n others. Returns how many there are then; the rest
-// of out is unchanged.
-fn put_kind<'a>(
-    out: &'a mut [u8],
-    n: usize,
-    i: u8,
-    kind: u8,
-    own: u32,
-    pairs: &'a PairMarks,
-    things: usize,
-) -> usize
-    requires { Room (length out.old) n (kind_marked own pairs.now things i kind) × (i < things) × (things ≤ most_rows) × (kind ≤ kind_count) }
-    ensures { Put out.old n out.new result (kind_marked own pairs.now things i kind) }
-{
-    let m = put_pairs(out, n, i, kind, pairs, things);
-    put(
-        out,
-        m,
-        i,
-        kind,
-        numbers::NO_SECOND,
-        marks::marked(own, kind),
-    )
-}
-
-// Writes the entries of thing i, kind by kind, after n others. Returns how many there are then; the rest of out is unchanged.
-fn put_thing<'a>(
-    out: &'a mut [u8],
-    n: usize,
-    i: u8,
-    own: u32,
-    pairs: &'a PairMarks,
-    b: Block,
-) -> usize
-    requires { Room (length out.old) n (thing_marked own pairs.now (block_of b) i) × (i < b.things) × BlockFits b }
-    ensures { Put out.old n out.new result (thing_marked own pairs.now (block_of b) i) }
-{
-    let end = b.kind + b.kinds;
-    let mut m = n;
-    let mut kind = b.kind;
-    while kind < end {
-        m = put_kind(out, m, i, kind, own, pairs, b.things);
-        kind += 1;
+    // Writes the entries of thing i and a kind, with each of `things` things and then alone, after the others. The rest of the buffer is unchanged.
+    fn put_kind(&mut self, marks: &Marks, things: usize, i: usize, kind: u8)
+        requires { Room (length self.old.out.now) self.old.n (kind_marked (get_or marks.now.own i 0) marks.now.pairs things i kind) × (i < things) × (things ≤ most_rows) × (kind ≤ kind_count) }
+        ensures { Appends self.old self.new (kind_marked (get_or marks.now.own i 0) marks.now.pairs things i kind) }
+    {
+        for j in 0..things {
+            if marks.has_pair(i, j, kind) {
+                self.put(i as u8, kind, j as u8);
+            }
+        }
+        if marks.has_alone(i, kind) {
+            self.put(i as u8, kind, numbers::NO_SECOND);
+        }
     }
-    m
-}
 
-// Writes the entries of a block, thing by thing, after n others. Returns how many there are then; the rest of out is unchanged.
-pub fn put_block<'a>(
-    out: &'a mut [u8],
-    n: usize,
-    own: &'a Marks,
-    pairs: &'a PairMarks,
-    b: Block,
-) -> usize
-    requires { Room (length out.old) n (block_marked own.now pairs.now (block_of b)) × BlockFits b }
-    ensures { Put out.old n out.new result (block_marked own.now pairs.now (block_of b)) }
-{
-    let mut m = n;
-    let mut i = 0;
-    while i < b.things {
-        m = put_thing(out, m, i as u8, own[i], pairs, b);
-        i += 1;
+    // Writes the entries of a block, thing by thing and kind by kind, after the others. The rest of the buffer is unchanged.
+    pub fn put_block(&mut self, marks: &Marks, b: Block)
+        requires { Room (length self.old.out.now) self.old.n (block_marked marks.now.own marks.now.pairs (block_of b)) × BlockFits b }
+        ensures { Appends self.old self.new (block_marked marks.now.own marks.now.pairs (block_of b)) }
+    {
+        for i in 0..b.things {
+            for kind in b.kind..b.kind + b.kinds {
+                self.put_kind(marks, b.things, i, kind);
+            }
+        }
     }
-    m
 }

@@ -1,73 +1,37 @@
-// Blocks of cells: an interval of each field from `lo` on, up to `hi` and without it. The sets of boxes that have the intervals are lent, and left unchanged.
-ghost use Rattle.std.specs.Prelude.{◌≡◌, ◌≤◌, ◌<◌, eqb};
+// Cells, and blocks of them. The sets of boxes that have the intervals are lent, and left unchanged.
+ghost use Rattle.std.specs.Prelude.{◌≡◌, ◌≤◌, ◌<◌, eqb, MatchOption};
 ghost use Rattle.std.specs.Int.Bits.{bit_and};
 ghost use Rattle.base.specs.Truths.{pick, Decides};
 ghost use Rattle.policy.specs.Limits.{field_count};
-ghost use Rattle.mesh.specs.Views.{most_cuts, set_at};
-ghost use Rattle.mesh.specs.Blocks.{HasSets, Claiming, Block, HasCell, Bounded, NoneAbove, Middle, Earlier, First, Some, GoOn, Holding};
+ghost use Rattle.mesh.specs.Views.{most_cuts};
+ghost use Rattle.mesh.specs.Blocks.{HasSets, Claiming, IsBlock, HasCell, Bounded, Middle, Before, First, SomeOf, GoOn, Holding};
 
-use crate::cuts::{CUTS, Sets};
+use crate::cuts::Sets;
 use policy::limits::FIELDS;
+use std::array;
 
 // A cell, by the number of its interval in each field.
 pub type Cell = [u8; FIELDS];
 
-// The boxes that have interval i of field f.
-fn set_at(sets: &Sets, f: usize, i: usize) -> u64
-    requires { (f < field_count) × (i < most_cuts) }
-    ensures { result ≡ set_at sets.now f i }
-{
-    sets[CUTS * f + i]
+// A block: in each field the intervals from lo's on, up to hi's and without it.
+#[derive(Clone, Copy)]
+pub struct Block {
+    pub lo: Cell,
+    pub hi: Cell,
+    ghost ordered: { IsBlock lo hi },
 }
 
 // The boxes that have the cell.
+#[tactic(auto, using(crate::proofs::Laws::Loops::claiming_one, crate::proofs::Laws::Loops::claiming_more))]
 fn claiming(sets: &Sets, c: Cell) -> u64
     requires { HasSets c }
     ensures { Claiming sets.now c result }
 {
-    let mut set = set_at(sets, 0, c[0] as usize);
-    let mut f = 1;
-    while f < FIELDS {
-        set = set & set_at(sets, f, c[f] as usize);
-        f += 1;
+    let mut set = sets[0][c[0] as usize];
+    for f in 1..FIELDS {
+        set &= sets[f][c[f] as usize];
     }
     set
-}
-
-// The cell in the middle of those from lo to hi, in each field.
-fn middle(lo: Cell, hi: Cell) -> Cell
-    requires { NoneAbove lo hi }
-    ensures { Middle lo hi result }
-{
-    let mut c = hi;
-    let mut f = 0;
-    while f < FIELDS {
-        c[f] = lo[f] + (hi[f] - lo[f]) / 2;
-        f += 1;
-    }
-    c
-}
-
-// How often the way from a block's first cell to its end is halved until nothing is left of it.
-const HALVINGS: usize = 8;
-
-// Those of the boxes that have the block's middle as well; or, where none has, what is halfway there, and so on.
-fn far(sets: &Sets, lo: Cell, hi: Cell, boxes: u64) -> u64
-    requires { Block lo hi × HasCell lo hi × (boxes ≡ 0 → ⊥) }
-    ensures { Some boxes result }
-{
-    let mut c = hi;
-    let mut n = 0;
-    while n < HALVINGS {
-        let half = middle(lo, c);
-        let both = boxes & claiming(sets, half);
-        if both != 0 {
-            return both;
-        }
-        c = half;
-        n += 1;
-    }
-    boxes
 }
 
 // Those of the boxes that have the last interval as well, or all where none has it.
@@ -81,99 +45,112 @@ fn lasting(boxes: u64, last: u64) -> u64
 }
 
 // Some of the boxes: field by field those that go on to the end of the block, where there are any.
+#[tactic(auto, using(crate::proofs::Laws::Loops::some_all, crate::proofs::Laws::Loops::some_lasting))]
 fn chosen(sets: &Sets, hi: Cell, boxes: u64) -> u64
     requires { Bounded hi × (boxes ≡ 0 → ⊥) }
-    ensures { Some boxes result }
+    ensures { SomeOf boxes result }
 {
     let mut some = boxes;
-    let mut f = 0;
-    while f < FIELDS {
-        some = lasting(some, set_at(sets, f, hi[f] as usize - 1));
-        f += 1;
+    for f in 0..FIELDS {
+        some = lasting(some, sets[f][hi[f] as usize - 1]);
     }
     some
 }
 
-// Where the boxes, which have interval `lo` of field f, end: at the first interval after it that one of them does not have, or at `hi`.
-fn end(sets: &Sets, f: usize, lo: u8, hi: u8, boxes: u64) -> u8
+// Where the boxes, which have interval `lo` of field f, end: the first interval after it that one of them does not have, if there is one before `hi`.
+fn end(sets: &Sets, f: usize, lo: u8, hi: u8, boxes: u64) -> Option<u8>
     requires { (f < field_count) × (lo < hi) × (hi ≤ most_cuts) }
-    ensures { GoOn sets.now f lo hi boxes result }
+    ensures { MatchOption result (GoOn sets.now f lo hi boxes hi) (λ e. GoOn sets.now f lo hi boxes e × (e < hi)) }
 {
-    let mut i = lo + 1;
-    while i < hi {
-        if boxes & set_at(sets, f, i as usize) != boxes {
-            return i;
+    for i in lo + 1..hi {
+        if boxes & sets[f][i as usize] != boxes {
+            return Some(i);
         }
-        i += 1;
     }
-    hi
+    None
 }
 
-// Whether c is before d: smaller in the first field in which they differ.
-fn before(c: Cell, d: Cell) -> bool
-    ensures { Decides result (Earlier c d) }
+// Whether c is before the best cell so far, if there is one: smaller in the first field in which they differ.
+#[tactic(auto, using(crate::proofs::Laws::Loops::earlier_decides))]
+fn before(c: Cell, best: Option<Cell>) -> bool
+    ensures { Decides result (Before c best) }
 {
-    let mut f = 0;
-    while f < FIELDS {
-        if c[f] != d[f] {
-            return c[f] < d[f];
+    match best {
+        Some(d) => c < d,
+        None => true,
+    }
+}
+
+// How often the way from a block's first cell to its end is halved until nothing is left of it.
+const HALVINGS: usize = 8;
+
+impl Block {
+    // Whether there is a cell in the block.
+    fn has_cell(self) -> bool
+        ensures { Decides result (HasCell self.lo self.hi) }
+    {
+        self.lo.iter().zip(&self.hi).all(|(l, h)| l < h)
+    }
+
+    // The cell in the middle, in each field.
+    fn middle(self) -> Cell
+        ensures { Middle self.lo self.hi result }
+    {
+        array::from_fn(|f| self.lo[f] + (self.hi[f] - self.lo[f]) / 2)
+    }
+
+    // Those of the boxes that have the block's middle as well; or, where none has, what is halfway there, and so on.
+    #[tactic(auto, using(crate::proofs::Laws::Loops::some_both))]
+    fn far(self, sets: &Sets, boxes: u64) -> u64
+        requires { HasCell self.lo self.hi × (boxes ≡ 0 → ⊥) }
+        ensures { SomeOf boxes result }
+    {
+        let Block { lo, mut hi } = self;
+        for _ in 0..HALVINGS {
+            hi = Block { lo, hi }.middle();
+            let both = boxes & claiming(sets, hi);
+            if both != 0 {
+                return both;
+            }
         }
-        f += 1;
+        boxes
     }
-    false
-}
 
-// Whether there is a cell in the block.
-fn has_cell(lo: Cell, hi: Cell) -> bool
-    ensures { Decides result (HasCell lo hi) }
-{
-    let mut f = 0;
-    while f < FIELDS {
-        if lo[f] >= hi[f] {
-            return false;
+    // The first cell of the block that no box has, if it is before `best`, else `best`.
+    #[cycle(least_rest)]
+    pub fn least(self, sets: &Sets, best: Option<Cell>) -> Option<Cell>
+        ensures { First sets.now self.lo self.hi best result }
+    {
+        if !self.has_cell() {
+            return best;
         }
-        f += 1;
+        if !before(self.lo, best) {
+            return best;
+        }
+        let boxes = claiming(sets, self.lo);
+        if boxes == 0 {
+            return Some(self.lo);
+        }
+        let some = chosen(sets, self.hi, self.far(sets, boxes));
+        self.rest(sets, best, some)
     }
-    true
-}
 
-// The first cell of the block that no box has, if it is before `best`, else `best`.
-#[cycle(least_rest)]
-pub fn least(sets: &Sets, lo: Cell, hi: Cell, best: Cell) -> Cell
-    requires { Block lo hi }
-    ensures { First sets.now lo hi best result }
-{
-    if !has_cell(lo, hi) {
-        return best;
+    // The same of a block whose first cell these boxes have. What they leave of it is a block past their end in each field, the last field first.
+    #[cycle(least_rest)]
+    fn rest(self, sets: &Sets, best: Option<Cell>, boxes: u64) -> Option<Cell>
+        requires { HasCell self.lo self.hi × Holding sets.now self.lo self.hi boxes field_count × (boxes ≡ 0 → ⊥) }
+        ensures { First sets.now self.lo self.hi best result }
+    {
+        let Block { lo, mut hi } = self;
+        let mut found = best;
+        for f in (0..FIELDS).rev() {
+            if let Some(e) = end(sets, f, lo[f], hi[f], boxes) {
+                let mut past = lo;
+                past[f] = e;
+                found = Block { lo: past, hi }.least(sets, found);
+                hi[f] = e;
+            }
+        }
+        found
     }
-    if !before(lo, best) {
-        return best;
-    }
-    let boxes = claiming(sets, lo);
-    if boxes == 0 {
-        return lo;
-    }
-    let some = chosen(sets, hi, far(sets, lo, hi, boxes));
-    rest(sets, lo, hi, best, some)
-}
-
-// The same of a block whose first cell these boxes have. What they leave of it is a block past their end in each field, the last field first.
-#[cycle(least_rest)]
-fn rest(sets: &Sets, lo: Cell, hi: Cell, best: Cell, boxes: u64) -> Cell
-    requires { Block lo hi × HasCell lo hi × Holding sets.now lo hi boxes field_count × (boxes ≡ 0 → ⊥) }
-    ensures { First sets.now lo hi best result }
-{
-    let mut short = hi;
-    let mut found = best;
-    let mut f = FIELDS;
-    while 0 < f {
-        f -= 1;
-        let e = end(sets, f, lo[f], short[f], boxes);
-        let mut past = lo;
-        past[f] = e;
-        let next = least(sets, past, short, found);
-        found = next;
-        short[f] = e;
-    }
-    found
 }

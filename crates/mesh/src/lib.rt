@@ -1,5 +1,5 @@
 // Dead rows by a mesh: the row's box is cut before each low and after each high of the boxes that could cover it, and the least packets of cells are
-// examined. The runs of a table are lent, and left unchanged.
+// examined. The table is lent, and left unchanged.
 #![tactic(auto)]
 
 pub mod blocks;
@@ -12,57 +12,70 @@ ghost use Rattle.covers.specs.Views.{boxes_at, BoxNumbers, result_of};
 ghost use Rattle.covers.specs.Covers.{Asked};
 ghost use Rattle.mesh.specs.Mesh.{mesh};
 ghost use Rattle.mesh.specs.Verdicts.{mesh_in};
-ghost use Rattle.mesh.specs.Views.{Listed, AskedRow};
-ghost use Rattle.mesh.specs.Blocks.{least_of, HasCuts};
 
-use crate::blocks::Cell;
+use crate::blocks::{Block, Cell};
 use crate::cuts::CUTS;
-use covers::set::Numbers;
-use covers::{Boxes, Found};
+use covers::Boxes;
 use policy::limits::FIELDS;
 use policy::selector::Packet;
-use policy::table::{Bounds, Heads, PerEntity};
+use policy::table::{Bounds, Table};
 
-// The least packet of a cell of the selector at `row`: in each field the cut that begins its interval.
-fn packet(bounds: &Bounds, at: &Numbers, count: usize, row: usize, c: Cell) -> Packet
-    requires { Listed at.now count × AskedRow bounds.now row × HasCuts bounds.now at.now count row c }
-    ensures { packet_of result ≡ least_of bounds.now at.now count row c }
-{
-    Packet {
-        source_address: cuts::nth(bounds, at, count, row, 0, c[0] as usize),
-        destination_address: cuts::nth(bounds, at, count, row, 1, c[1] as usize),
-        source_port: cuts::nth(bounds, at, count, row, 2, c[2] as usize),
-        destination_port: cuts::nth(bounds, at, count, row, 3, c[3] as usize),
-        protocol: cuts::nth(bounds, at, count, row, 4, c[4] as usize),
+// A row, by the number of its selector, and the boxes that cut it.
+#[derive(Clone, Copy)]
+pub struct Mesh<'a> {
+    pub bounds: &'a Bounds,
+    pub row: usize,
+    pub boxes: Boxes,
+    ghost listed: { BoxNumbers boxes },
+}
+
+impl Mesh<'_> {
+    ghost use Rattle.mesh.specs.Views.{AskedRow};
+    ghost use Rattle.mesh.specs.Blocks.{least_of, HasCuts};
+
+    // The least packet of a cell: in each field the cut that begins its interval.
+    fn packet(&self, c: Cell) -> Packet
+        requires { AskedRow self.now × HasCuts self.now c }
+        ensures { packet_of result ≡ least_of self.now c }
+    {
+        let number = |f: usize| self.nth(f, c[f] as usize);
+        Packet {
+            source_address: number(0),
+            destination_address: number(1),
+            source_port: number(2),
+            destination_port: number(3),
+            protocol: number(4),
+        }
+    }
+
+    // The least packet of the row that no box has: that of the first cell in no box.
+    fn examine(&self) -> Option<Packet>
+        requires { AskedRow self.now }
+        ensures { result_of result ≡ mesh (selector_in self.now.bounds.now self.now.row) (boxes_at self.now.bounds.now self.now.boxes 0) }
+    {
+        let mut sets = [[0; CUTS]; FIELDS];
+        let mut hi = [0; FIELDS];
+        for f in 0..FIELDS {
+            hi[f] = self.fill(f, &mut sets[f]) as u8;
+        }
+        let all = Block {
+            lo: [0; FIELDS],
+            hi,
+        };
+        let c = all.least(&sets, None)?;
+        Some(self.packet(c))
     }
 }
 
-// The least packet of the selector at `row` that no box of the cover has: that of the first cell of the mesh in no box.
-fn examine(bounds: &Bounds, row: usize, cover: Boxes) -> Found
-    requires { AskedRow bounds.now row × BoxNumbers cover }
-    ensures { result_of result ≡ mesh (selector_in bounds.now row) (boxes_at bounds.now cover 0) }
+// The least packet of row i that no row before it takes, or none where the row is dead.
+pub fn judge(t: &Table, i: usize) -> Option<Packet>
+    requires { Asked t.now.parents t.now.heads t.now.bounds i × Ordered (selector_in t.now.bounds i) }
+    ensures { result_of result ≡ mesh_in t.now.parents t.now.heads t.now.bounds i }
 {
-    let at = cover.at;
-    let count = cover.count;
-    let mut sets = [0u64; FIELDS * CUTS];
-    let mut past = [0u8; FIELDS];
-    let mut f = 0;
-    while f < FIELDS {
-        past[f] = cuts::fill(bounds, &at, count, row, f, &mut sets) as u8;
-        f += 1;
-    }
-    let width = past[0];
-    let c = blocks::least(&sets, [0; FIELDS], past, [width, 0, 0, 0, 0]);
-    if c[0] == width {
-        return Found::Nothing;
-    }
-    Found::Packet(packet(bounds, &at, count, row, c))
-}
-
-// The least packet of row i that no row before it takes, or nothing where the row is dead.
-pub fn judge<'a>(parents: &'a PerEntity, heads: &'a Heads, bounds: &'a Bounds, i: usize) -> Found
-    requires { Asked parents.now heads.now bounds.now i × Ordered (selector_in bounds.now i) }
-    ensures { result_of result ≡ mesh_in parents.now heads.now bounds.now i }
-{
-    examine(bounds, i, covers::cover(parents, heads, bounds, i))
+    let mesh = Mesh {
+        bounds: &t.bounds,
+        row: i,
+        boxes: covers::cover(t, i),
+    };
+    mesh.examine()
 }

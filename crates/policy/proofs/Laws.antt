@@ -4,3 +4,4 @@ pub mod Runs
 pub mod Lists
 pub mod Tables
 pub mod Changed
+pub mod Equal

@@ -3,5 +3,6 @@ pub mod Limits
 pub mod Model
 pub mod Wellformed
 pub mod Words
+pub mod Fields
 pub mod Views
 pub mod Writes

@@ -4,11 +4,10 @@ use Rattle.std.specs.Prelude.{ℕ, ◌+◌, ◌*◌, ◌≤◌, ◌≡◌, List,
 use Rattle.base.specs.Lists.{tabulate}
 use Rattle.policy.specs.Limits.{most_entities, technologies, most_filters, most_rows, field_count, head_count, word_count}
 use Rattle.policy.specs.Model.{Entity, Coefficients, Range, Selector, Packet, Filter, Row, Table, no_parent, no_range, extended}
-use Rattle.policy.specs.Words.{of_words, selector_of_words}
+use Rattle.policy.specs.Words.{selector_of_words}
 use Rattle.policy.specs.declared.number.Number.{Number as NumberStruct}
 use Rattle.policy.specs.declared.selector.Range.{Range as RangeStruct}
-use Rattle.policy.specs.declared.selector.Selector.{Selector as SelectorStruct}
-use Rattle.policy.specs.declared.selector.Packet.{Packet as PacketStruct}
+use Rattle.policy.specs.declared.selector.Fields.{Fields}
 use Rattle.policy.specs.declared.row.Entity.{Entity as EntityStruct}
 use Rattle.policy.specs.declared.row.Coefficients.{Coefficients as CoefficientsStruct}
 use Rattle.policy.specs.declared.row.Filter.{Filter as FilterStruct}
@@ -17,9 +16,15 @@ use Rattle.policy.specs.declared.table.Table.{Table as TableStruct}
 
 -- ---- small structs
 
--- The number that a Number is: that of its two words. Nothing above this crate unfolds it.
+abbrev pub SelectorStruct : Type 0
+SelectorStruct = Fields RangeStruct
+
+abbrev pub PacketStruct : Type 0
+PacketStruct = Fields NumberStruct
+
+-- The number that a Number is. Nothing above this crate unfolds it.
 unfoldable pub value : NumberStruct → ℕ
-value n = of_words n.upper n.lower
+value n = n.0
 
 abbrev pub range_of : RangeStruct → Range
 range_of r = record { low = value r.low; high = value r.high }

@@ -1,4 +1,4 @@
--- How the code holds numbers in words of 64 bits: a number as two words, and a selector as ten. That a selector's words give it back is a law.
+-- How a table holds numbers in words of 64 bits: a number as two words, and a selector as ten. That a selector's words give it back is a law.
 -- Assumes nothing.
 use Rattle.std.specs.Prelude.{ℕ, ◌+◌, ◌*◌, ◌/◌, ◌%◌, ◌^◌, ◌≤◌, ◌<◌, List, [], ◌∷◌, ◌++◌, get_or}
 use Rattle.policy.specs.Model.{Range, Selector, no_range}

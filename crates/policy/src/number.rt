@@ -6,70 +6,52 @@ ghost use Rattle.hexlines.specs.Numbers.{number_bytes};
 ghost use Rattle.policy.specs.Words.{word_size, of_words};
 ghost use Rattle.policy.specs.Views.{value};
 
-// Two words; the upper one is the more significant.
-#[derive(Clone, Copy)]
-pub struct Number {
-    upper: u64,
-    lower: u64,
-}
+#[derive(Clone, Copy, Debug, PartialEq, Eq, PartialOrd, Ord)]
+pub struct Number(u128);
 
-// How many bits a word has, and how many bytes.
-const WORD_BITS: usize = 64;
+// How many bits a number has, and how many bytes.
+const BITS: usize = u128::BITS as usize;
 
-const WORD_BYTES: usize = 8;
+const BYTES: usize = BITS / 8;
 
-// The largest word, and the value of a word's first bit.
-const LAST_WORD: u64 = 18446744073709551615;
+// How many values a word has.
+const WORD_SIZE: u128 = 1 << 64;
 
-const FIRST_BIT: u64 = 9223372036854775808;
-
-// Byte k of a word, counted from the least significant.
-fn byte_of(word: u64, k: usize) -> u8
-    ensures { result ≡ (word / (256 ^ k)) % 256 }
-{
-    let mut rest = word;
-    let mut i = 0;
-    while i < k {
-        rest = rest / 256;
-        i += 1;
-    }
-    (rest % 256) as u8
-}
-
+#[tactic(auto, unfolding(crate::specs::Views::value))]
 impl Number {
     // The number of this value.
     pub fn new(n: u64) -> Number
         ensures { value result ≡ n }
     {
-        Number { upper: 0, lower: n }
+        Number(u128::from(n))
     }
 
     // The number of two words, the more significant first.
     pub fn of_words(upper: u64, lower: u64) -> Number
         ensures { value result ≡ of_words upper lower }
     {
-        Number { upper, lower }
+        Number(u128::from(upper) * WORD_SIZE + u128::from(lower))
     }
 
     // The more significant word.
     pub fn upper_word(self) -> u64
         ensures { result ≡ value self / word_size }
     {
-        self.upper
+        (self.0 / WORD_SIZE) as u64
     }
 
     // The less significant word, which is the number where that is small enough.
     pub fn lower_word(self) -> u64
         ensures { result ≡ value self % word_size }
     {
-        self.lower
+        (self.0 % WORD_SIZE) as u64
     }
 
     // Whether self is at most other.
     pub fn at_most(self, other: Number) -> bool
         ensures { result ≡ leb (value self) (value other) }
     {
-        (self.upper < other.upper) | ((self.upper == other.upper) & (self.lower <= other.lower))
+        self <= other
     }
 
     // The number after self, which is below limit.
@@ -77,16 +59,7 @@ impl Number {
         requires { value self < value limit }
         ensures { value result ≡ suc (value self) }
     {
-        if self.lower == LAST_WORD {
-            return Number {
-                upper: self.upper + 1,
-                lower: 0,
-            };
-        }
-        Number {
-            upper: self.upper,
-            lower: self.lower + 1,
-        }
+        Number(self.0 + 1)
     }
 
     // The number before self, which is above least.
@@ -94,33 +67,21 @@ impl Number {
         requires { value least < value self }
         ensures { value result ≡ value self - 1 }
     {
-        if self.lower == 0 {
-            return Number {
-                upper: self.upper - 1,
-                lower: LAST_WORD,
-            };
-        }
-        Number {
-            upper: self.upper,
-            lower: self.lower - 1,
-        }
+        Number(self.0 - 1)
     }
 
     // The last bit of the number.
     pub fn last_bit(self) -> u8
         ensures { result ≡ value self % 2 }
     {
-        (self.lower % 2) as u8
+        (self.0 % 2) as u8
     }
 
     // The number without its last bit.
     pub fn half(self) -> Number
         ensures { value result ≡ value self / 2 }
     {
-        Number {
-            upper: self.upper / 2,
-            lower: self.upper % 2 * FIRST_BIT + self.lower / 2,
-        }
+        Number(self.0 / 2)
     }
 
     // The number with k bits more, which are 0; it is at most limit.
@@ -128,66 +89,36 @@ impl Number {
         requires { value self * 2 ^ k ≤ value limit }
         ensures { value result ≡ value self * 2 ^ k }
     {
-        if k < WORD_BITS {
-            let over = (self.lower / 2) >> (WORD_BITS - 1 - k);
-            return Number {
-                upper: (self.upper << k) + over,
-                lower: self.lower << k,
-            };
+        if k < BITS {
+            Number(self.0 << k)
+        } else {
+            Number(0)
         }
-        if k < 2 * WORD_BITS {
-            return Number {
-                upper: self.lower << (k - WORD_BITS),
-                lower: 0,
-            };
-        }
-        Number::new(0)
     }
 
-    // The lesser of the two. Its upper word is the lesser of theirs.
+    // The lesser of the two.
     pub fn lesser(self, other: Number) -> Number
         ensures { value result ≡ min (value self) (value other) }
     {
-        Number {
-            upper: if self.upper <= other.upper {
-                self.upper
-            } else {
-                other.upper
-            },
-            lower: if self.at_most(other) {
-                self.lower
-            } else {
-                other.lower
-            },
-        }
+        self.min(other)
     }
 
-    // The greater of the two. Its upper word is the greater of theirs.
+    // The greater of the two.
     pub fn greater(self, other: Number) -> Number
         ensures { value result ≡ max (value self) (value other) }
     {
-        Number {
-            upper: if self.upper <= other.upper {
-                other.upper
-            } else {
-                self.upper
-            },
-            lower: if self.at_most(other) {
-                other.lower
-            } else {
-                self.lower
-            },
-        }
+        self.max(other)
     }
 
     // Byte k of the number, counted from the least significant.
     pub fn byte(self, k: usize) -> u8
         ensures { result ≡ (value self / (256 ^ k)) % 256 }
     {
-        if k < WORD_BYTES {
-            return byte_of(self.lower, k);
+        if k < BYTES {
+            ((self.0 >> (8 * k)) % 256) as u8
+        } else {
+            0
         }
-        byte_of(self.upper, k - WORD_BYTES)
     }
 
     // Writes the number's last `width` bytes, the most significant first, into bytes from place at on. The rest of bytes is unchanged.
@@ -195,10 +126,8 @@ impl Number {
         requires { at + width ≤ length bytes.old }
         ensures { bytes.new ≡ sets bytes.old at (number_bytes width (value self)) }
     {
-        let mut k = 0;
-        while k < width {
+        for k in 0..width {
             bytes[at + k] = self.byte(width - 1 - k);
-            k += 1;
         }
     }
 }

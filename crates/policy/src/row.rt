@@ -1,18 +1,20 @@
 // What the frames of a table say: entities, coefficients, filters and rows.
 ghost use Rattle.std.specs.Prelude.{◌≡◌, ◌≤◌, length, take};
 ghost use Rattle.policy.specs.Limits.{most_gateways};
+ghost use Rattle.policy.specs.Views.{row_of};
 
 use crate::limits::GATEWAYS;
 use crate::selector::Selector;
 
-#[derive(Clone, Copy)]
+#[derive(Clone, Copy, Debug, PartialEq, Eq)]
 pub struct Entity {
+    // As it is: a root's parent is the number NO_PARENT, since frames::entity::read promises the entity of any bytes.
     pub parent: u8,
     pub layer: u8,
     pub mask: u8,
 }
 
-#[derive(Clone, Copy)]
+#[derive(Clone, Copy, Debug, PartialEq, Eq)]
 pub struct Coefficients {
     pub header: u8,
     pub payload: u8,
@@ -20,10 +22,11 @@ pub struct Coefficients {
 }
 
 // The root drops packets in the selector, or passes them, by the action.
-#[derive(Clone, Copy)]
+#[derive(Clone, Copy, Debug, PartialEq, Eq)]
 pub struct Filter {
     pub root: u8,
     pub selector: Selector,
+    // As it is: the action's byte, since frames::filter::read promises the filter of any bytes.
     pub action: u8,
 }
 
@@ -31,7 +34,7 @@ pub struct Filter {
 pub type Gateways = [u8; GATEWAYS];
 
 // The gateways are the first `count` of the array.
-#[derive(Clone, Copy)]
+#[derive(Clone, Copy, Debug, PartialEq, Eq)]
 pub struct Row {
     pub holder: u8,
     pub source: u8,
@@ -39,6 +42,7 @@ pub struct Row {
     pub technology: u8,
     pub coefficients: Coefficients,
     pub selector: Selector,
+    // As it is: an array and its length, since a row is copied and there is no heap.
     pub count: u8,
     pub gateways: Gateways,
 }
@@ -48,7 +52,13 @@ impl Row {
     pub fn gateway_count(self) -> usize
         ensures { (result ≡ length (take self.count self.gateways)) × (result ≤ most_gateways) }
     {
-        let n = self.count as usize;
-        if n < GATEWAYS { n } else { GATEWAYS }
+        usize::from(self.count).min(GATEWAYS)
+    }
+
+    // The row's gateways.
+    pub fn gateway_list(&self) -> &[u8]
+        ensures { result.now ≡ (row_of self.now).gateways }
+    {
+        &self.gateways[..self.gateway_count()]
     }
 }

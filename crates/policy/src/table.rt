@@ -28,6 +28,7 @@ pub type Heads = [u8; HEAD_COUNT * ROWS];
 // Ten words for each selector, as specs/Words.antt lays them out: first the rows' selectors, then the filters'.
 pub type Bounds = [u64; WORD_COUNT * SELECTORS];
 
+// As it is: runs with their counts, of fixed length, since the box has no heap; `table_of` and `Held` say what they hold.
 #[derive(Clone, Copy)]
 pub struct Table {
     // how many entities there are, and of each its parent, layer and mask
@@ -52,6 +53,7 @@ pub struct Table {
 
 // The lines of a text before those of its rows: those of the entities, the caps, the floor (0 while it has not been read, 1 then) and the
 // filters.
+// As it is: a number for the floor, since `lines_before` promises the sum for each.
 pub fn lines_before(entities: usize, caps: usize, floored: u8, filters: usize) -> usize
     requires { (entities ≤ most_entities) × (caps ≤ technologies) × (filters ≤ most_filters) }
     ensures { result ≡ entities + caps + floored + filters }
@@ -83,6 +85,7 @@ fn unpacked(word: u64, size: u64) -> Range
 }
 
 // Field f of the selector at k.
+#[tactic(auto, using(crate::proofs::Laws::Runs::address_range), unfolding(crate::specs::Views::range_in, crate::specs::Views::numbers_at))]
 pub fn range_at(bounds: &Bounds, k: usize, f: usize) -> Range
     requires { (k < most_selectors) × (f < field_count) }
     ensures { range_of result ≡ range_in bounds.now k f }
@@ -115,54 +118,6 @@ pub fn selector_at(bounds: &Bounds, k: usize) -> Selector
         source_port: range_at(bounds, k, 2),
         destination_port: range_at(bounds, k, 3),
         protocol: range_at(bounds, k, 4),
-    }
-}
-
-// The row at i.
-pub fn row_at<'a>(heads: &'a Heads, bounds: &'a Bounds, i: usize) -> Row
-    requires { i < most_rows }
-    ensures { row_of result ≡ row_in heads.now bounds.now i }
-{
-    let h = HEAD_COUNT * i;
-    Row {
-        holder: heads[h],
-        source: heads[h + 1],
-        destination: heads[h + 2],
-        technology: heads[h + 3],
-        coefficients: Coefficients {
-            header: heads[h + 4],
-            payload: heads[h + 5],
-            confidentiality: heads[h + 6],
-        },
-        selector: selector_at(bounds, i),
-        count: heads[h + 7],
-        gateways: [
-            heads[h + 8],
-            heads[h + 9],
-            heads[h + 10],
-            heads[h + 11],
-            heads[h + 12],
-            heads[h + 13],
-            heads[h + 14],
-            heads[h + 15],
-        ],
-    }
-}
-
-// The filter at k.
-pub fn filter_at<'a>(
-    roots: &'a PerFilter,
-    actions: &'a PerFilter,
-    bounds: &'a Bounds,
-    k: usize,
-) -> Filter
-    requires { k < most_filters }
-    ensures { filter_of result ≡ filter_in roots.now actions.now bounds.now k }
-{
-    Filter {
-        root: roots[k],
-        selector: selector_at(bounds, ROWS + k),
-        action: actions[k],
     }
 }
 
@@ -201,14 +156,11 @@ fn put_head(heads: &mut Heads, i: usize, head: [u8; HEAD_COUNT])
     ensures { heads.new ≡ put_head heads.old i head }
 {
     let h = HEAD_COUNT * i;
-    let mut c = 0;
-    while c < HEAD_COUNT {
-        heads[h + c] = head[c];
-        c += 1;
-    }
+    heads[h..h + HEAD_COUNT].copy_from_slice(&head);
 }
 
 // Writes the filter at k, and changes nothing else.
+// As it is: lent the runs that it changes; a method of the table would have to say of each other field that it stays. So is `put_row`.
 pub fn put_filter<'a>(
     roots: &'a mut PerFilter,
     actions: &'a mut PerFilter,
@@ -256,6 +208,50 @@ pub fn put_row<'a>(heads: &'a mut Heads, bounds: &'a mut Bounds, i: usize, r: Ro
 }
 
 impl Table {
+    // The row at i.
+    pub fn row(&self, i: usize) -> Row
+        requires { i < most_rows }
+        ensures { row_of result ≡ row_in self.now.heads self.now.bounds i }
+    {
+        let heads = &self.heads;
+        let h = HEAD_COUNT * i;
+        Row {
+            holder: heads[h],
+            source: heads[h + 1],
+            destination: heads[h + 2],
+            technology: heads[h + 3],
+            coefficients: Coefficients {
+                header: heads[h + 4],
+                payload: heads[h + 5],
+                confidentiality: heads[h + 6],
+            },
+            selector: selector_at(&self.bounds, i),
+            count: heads[h + 7],
+            gateways: [
+                heads[h + 8],
+                heads[h + 9],
+                heads[h + 10],
+                heads[h + 11],
+                heads[h + 12],
+                heads[h + 13],
+                heads[h + 14],
+                heads[h + 15],
+            ],
+        }
+    }
+
+    // The filter at k.
+    pub fn filter(&self, k: usize) -> Filter
+        requires { k < most_filters }
+        ensures { filter_of result ≡ filter_in self.now.filter_roots self.now.filter_actions self.now.bounds k }
+    {
+        Filter {
+            root: self.filter_roots[k],
+            selector: selector_at(&self.bounds, ROWS + k),
+            action: self.filter_actions[k],
+        }
+    }
+
     // A table of nothing.
     pub fn new() -> Table
         ensures { Stands result no_table }

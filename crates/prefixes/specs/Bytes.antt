@@ -1,9 +1,9 @@
 -- Document 02, [5]: prefixes as bytes in the caller's output, with addresses of any number of bytes.
 -- Assumes nothing.
-use Rattle.std.specs.Prelude.{ℕ, ◌+◌, ◌*◌, ◌-◌, ◌/◌, ◌^◌, ◌≤◌, ◌<◌, ◌≡◌, Bool, true, List, [], ◌∷◌, ◌++◌, length}
+use Rattle.std.specs.Prelude.{ℕ, ◌+◌, ◌*◌, ◌-◌, ◌/◌, ◌^◌, ◌≤◌, ◌<◌, ◌≡◌, Bool, true, List, [], ◌∷◌, ◌++◌, length, Result}
 use Rattle.base.specs.Truths.{bit}
 use Rattle.base.specs.Outputs.{WritesCounted}
-use Rattle.base.specs.declared.Written.{Written}
+use Rattle.base.specs.declared.Short.{Short}
 use Rattle.hexlines.specs.Numbers.{number_bytes}
 use Rattle.policy.specs.Model.{Range}
 use Rattle.policy.specs.Views.{value, range_of}
@@ -22,7 +22,7 @@ prefix_bytes bytes [] = []
 prefix_bytes bytes (p ∷ ps) = number_bytes bytes p.address ++ (p.length ∷ prefix_bytes bytes ps)
 
 -- What becomes of the output, and what is answered, where the range's addresses have `bytes` bytes: "with the count returned".
-abbrev pub Puts : ℕ → Range → (before after : List ℕ) → Written → Type 0
+abbrev pub Puts : ℕ → Range → (before after : List ℕ) → Result ℕ Short → Type 0
 Puts bytes r before after w =
     WritesCounted (length (prefixes (8 * bytes) r)) (prefix_bytes bytes (prefixes (8 * bytes) r)) before after w
 

@@ -10,7 +10,7 @@ ghost use Rattle.policy.specs.Limits.{number_width};
 ghost use Rattle.prefixes.specs.Prefixes.{alone_if, raised, pairs as pairs_of};
 ghost use Rattle.prefixes.specs.Bytes.{prefix_bytes, Puts, prefixes_in, Held, Room};
 
-use base::Written;
+use base::{Short, Written};
 use policy::number::Number;
 use policy::selector::Range;
 
@@ -62,6 +62,7 @@ fn count(a: Addresses) -> usize
 
 // Writes a prefix of `bits` bits into out, after `at` others, if it is to be there: n and then zeros, in as many bytes as the addresses of `whole` have,
 // and the number of bits. The rest of out is unchanged.
+// As it is: the test beside the number, as the definition `alone_if` has them; an Option would be made at three calls to be taken apart here.
 fn put_if(there: bool, n: Number, bits: usize, whole: Addresses, out: &mut [u8], at: usize)
     requires { Room there n bits whole out.old at }
     ensures { out.new ≡ sets out.old ((whole.bits / 8 + 1) * at) (prefix_bytes (whole.bits / 8) (map (raised (whole.bits - bits)) (alone_if there bits (value n)))) }
@@ -87,7 +88,7 @@ pub fn put(r: Range, bytes: usize, out: &mut [u8]) -> Written
     };
     let n = count(whole);
     if out.len() < (bytes + 1) * n {
-        return Written::Short;
+        return Err(Short);
     }
     let mut rest = whole;
     let mut from = 0;
@@ -109,5 +110,5 @@ pub fn put(r: Range, bytes: usize, out: &mut [u8]) -> Written
         out,
         from,
     );
-    Written::Count(n)
+    Ok(n)
 }

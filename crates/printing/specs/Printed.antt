@@ -1,10 +1,11 @@
 -- Document 01, "Programs: rowlist prints each List entry as six digits a line; strike prints Strike's text. Both read standard input of up
 -- to 16 KiB. A refused text prints ! and two digits each of number and line; longer input prints !00; each of these ends with a line feed."
 -- Assumes nothing.
-use Rattle.std.specs.Prelude.{ℕ, ◌≤◌, ◌≡◌, List, [], ◌∷◌, ◌++◌, leb, length, take}
+use Rattle.std.specs.Prelude.{ℕ, ◌≤◌, ◌≡◌, List, [], ◌∷◌, ◌++◌, leb, length, take, Result, Ok, Err, IfOk}
 use Rattle.base.specs.Truths.{pick}
 use Rattle.hexlines.specs.Lines.{line_of}
-use Rattle.base.specs.Outputs.{fits, written}
+use Rattle.base.specs.Outputs.{fits, written, short}
+use Rattle.base.specs.declared.Short.{Short}
 use Rattle.policy.specs.Model.{Table}
 use Rattle.reader.specs.Lines.{line_feed}
 use Rattle.base.specs.Answers.{Answer, returned, refused_by}
@@ -58,10 +59,10 @@ rowlist_prints input = printed (list_printed (parse input)) input
 unfoldable pub strike_prints : List ℕ → List ℕ
 strike_prints input = printed (struck_printed input (parse input)) input
 
--- What is to be printed stands at the output's start, and its length is returned; if there is no room for it, nothing is done and 0 returned.
-pub record Prints (result before after : List ℕ) (n : ℕ) : Type 0 where
+-- What is to be printed stands at the output's start, and its length is returned; if there is no room for it, nothing is done, and that is told.
+pub record Prints (result before after : List ℕ) (r : Result ℕ Short) : Type 0 where
   pub output : after ≡ written result before
-  pub answer : n ≡ pick (fits result before) (length result) 0
+  pub answer : r ≡ pick (fits result before) (Ok (length result)) (Err short)
   -- the first n bytes stand in the output; in two ways, as a caller that takes this part of it is asked
-  pub within : n ≤ length after
-  pub part : n ≡ length (take n after)
+  pub within : IfOk r (λ n. n ≤ length after)
+  pub part : IfOk r (λ n. n ≡ length (take n after))

@@ -1,6 +1,6 @@
 -- Document 02, [2], "Joining two rows": what is promised of the call Join, for every text. Numbers of the documents stand here as they print them.
 -- Assumes nothing.
-use Rattle.std.specs.Prelude.{ℕ, ◌+◌, ◌*◌, ◌≤◌, ◌<◌, ◌≡◌, true, ◌↔◌, List, [], ◌∷◌, ◌++◌, length, drop}
+use Rattle.std.specs.Prelude.{ℕ, ◌+◌, ◌*◌, ◌≤◌, ◌<◌, ◌≡◌, true, ◌↔◌, List, [], ◌∷◌, ◌++◌, length, drop, Ok, Err}
 use Rattle.hexlines.specs.Lines.{is_line, bytes_of}
 use Rattle.hexlines.specs.Letters.{InCapitals}
 use Rattle.policy.specs.Model.{Coefficients, Selector, Table, extended, row_at, parent_of}
@@ -16,7 +16,7 @@ use Rattle.reader.specs.Frames.{a_row, frame_of}
 use Rattle.reader.specs.States.{table_read, parse}
 use Rattle.analyser.specs.Calls.{line_part, joined_row, joined_line, join_written}
 use Rattle.analyser.specs.CallAnswers.{Only, SameAnswers, JoinAnswers}
-use Rattle.analyser.specs.declared.Counted.TheVariants.{Count, Refused}
+use Rattle.calls.specs.Views.{refusal}
 
 -- Each is ⪰ both, and whatever is ⪰ both is ⪰ it.
 pub record UpperBounds : Type 1 where
@@ -31,10 +31,10 @@ pub record UpperBounds : Type 1 where
 pub record JoinedRows (text : List ℕ) (t : Table) (i j : ℕ) : Type 0 where
   -- "the call writes one row line without line feed .. It returns the length, .. what lies past a result stays unchanged"; 8 where there is no room
   pub written : (out : List ℕ) → length (joined_line i j t) ≤ length out
-      → Only (JoinAnswers (parse text) i j out) (Count (length (joined_line i j t)))
+      → Only (JoinAnswers (parse text) i j out) (Ok (length (joined_line i j t)))
       × (join_written (parse text) i j out ≡ joined_line i j t ++ drop (length (joined_line i j t)) out)
   pub short : (out : List ℕ) → length out < length (joined_line i j t)
-      → Only (JoinAnswers (parse text) i j out) (Refused 8 0) × (join_written (parse text) i j out ≡ out)
+      → Only (JoinAnswers (parse text) i j out) (Err (refusal 8 0)) × (join_written (parse text) i j out ≡ out)
   -- the line says the joined row, "in capitals"
   pub line : is_line (joined_line i j t) ≡ true
   pub says : frame_of (bytes_of (joined_line i j t)) ≡ a_row (joined_row i j t)
@@ -57,10 +57,10 @@ pub record JoinedRows (text : List ℕ) (t : Table) (i j : ℕ) : Type 0 where
 pub record JoinPromise (text : List ℕ) (t : Table) : Type 0 where
   -- "9", whether one is there or none
   pub no_row : (i j : ℕ) (out : List ℕ) → ((i < length t.rows) × (j < length t.rows) → ⊥)
-      → Only (JoinAnswers (parse text) i j out) (Refused 9 0) × (join_written (parse text) i j out ≡ out)
+      → Only (JoinAnswers (parse text) i j out) (Err (refusal 9 0)) × (join_written (parse text) i j out ≡ out)
   -- "11 when holder, technology, G or either end's root differ, after 9 and before 8; its line is 0", whatever the output
   pub differ : (i j : ℕ) (out : List ℕ) → i < length t.rows → j < length t.rows → (Joinable (parent_of t) (row_at t i) (row_at t j) → ⊥)
-      → Only (JoinAnswers (parse text) i j out) (Refused 11 0) × (join_written (parse text) i j out ≡ out)
+      → Only (JoinAnswers (parse text) i j out) (Err (refusal 11 0)) × (join_written (parse text) i j out ≡ out)
   -- two rows can be joined that have equal holder, technology and gateways, whose sources are of one device, some entity being ⪰ both, and so their
   -- destinations
   pub joinable : (i j : ℕ)

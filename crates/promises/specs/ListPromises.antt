@@ -1,7 +1,7 @@
 -- Demands 2 and 3 on the list, with document 02's request [7], and the number that C gets, for every text. Numbers of the documents stand here as they
 -- print them.
 -- Assumes nothing.
-use Rattle.std.specs.Prelude.{ℕ, ◌+◌, ◌*◌, ◌≤◌, ◌<◌, ◌≡◌, ◌↔◌, length, drop}
+use Rattle.std.specs.Prelude.{ℕ, ◌+◌, ◌*◌, ◌≤◌, ◌<◌, ◌≡◌, ◌↔◌, length, drop, Ok, Err}
 use mathlib.Core.List.{List, [], ◌∷◌, ◌++◌, Memᴰ}
 use Rattle.base.specs.Answers.{returned}
 use Rattle.policy.specs.Model.{Table}
@@ -13,7 +13,7 @@ use Rattle.kinds.specs.Entries.{Entry, entry, entries, Ascending}
 use Rattle.listing.specs.Bytes.{bytes}
 use Rattle.analyser.specs.Calls.{list_of, list_written, packed}
 use Rattle.analyser.specs.CallAnswers.{Only, ListAnswers}
-use Rattle.analyser.specs.declared.Counted.TheVariants.{Count, Refused}
+use Rattle.calls.specs.Views.{refusal}
 
 -- The anomalies of a kind of one row, and of one of two rows: "Its entry is i, the kind, and j or FF."
 abbrev pub OfOne : Table → ℕ → (ℕ → Type 0) → Type 0
@@ -63,7 +63,7 @@ module _ (r : Parsed) where
   pub record ListPromise : Type 0 where
     -- given space, List writes the entries and returns their count
     pub written : (out : List ℕ) → 3 * length (entries t) ≤ length out
-        → Only (ListAnswers (returned r) out) (Count (length (entries t)))
+        → Only (ListAnswers (returned r) out) (Ok (length (entries t)))
         × (list_written (returned r) out ≡ bytes (entries t) ++ drop (3 * length (entries t)) out)
     -- "three bytes an entry (first row, kind, second number)", with filter numbers in those of filters
     pub three : (bytes [] ≡ []) × ((i kind j : ℕ) (l : List Entry) → bytes (entry i kind j ∷ l) ≡ i ∷ kind ∷ j ∷ bytes l)
@@ -79,6 +79,6 @@ module _ (r : Parsed) where
 
 -- "a number in return: the count, or 65,536 × refusal + line". It tells the count from a refusal, and a refusal's number from its line.
 pub record PackedPromise (text out : List ℕ) : Type 0 where
-  pub count : (n : ℕ) → ListAnswers (parse text) out (Count n) → (packed (list_of (parse text) out) ≡ n) × (n < 65536)
-  pub refusals : (number line : ℕ) → ListAnswers (parse text) out (Refused number line)
+  pub count : (n : ℕ) → ListAnswers (parse text) out (Ok n) → (packed (list_of (parse text) out) ≡ n) × (n < 65536)
+  pub refusals : (number line : ℕ) → ListAnswers (parse text) out (Err (refusal number line))
       → (packed (list_of (parse text) out) ≡ 65536 * number + line) × (1 ≤ number) × (number ≤ 10) × (line < 65536)

@@ -5,8 +5,7 @@ use mathlib.Core.List.{List, Memᴰ}
 use Rattle.base.specs.Answers.{returned}
 use Rattle.policy.specs.Model.{Range, Selector, Packet, Table, row_at}
 use Rattle.policy.specs.Wellformed.{Ordered}
-use Rattle.policy.specs.Views.{packet_of}
-use Rattle.policy.specs.declared.selector.Packet.{Packet as PacketStruct}
+use Rattle.policy.specs.Views.{PacketStruct, packet_of}
 use Rattle.reader.specs.States.{Parsed, parse}
 use Rattle.covers.specs.Least.{◌≤ₚ◌, Claimed}
 use Rattle.covers.specs.Covers.{cover_on, CoverExact}

@@ -1,7 +1,7 @@
 -- Document 02, [5], "Prefixes for the branch router": what is promised of the call Prefixes, for every text. Numbers of the documents stand here as they
 -- print them.
 -- Assumes nothing.
-use Rattle.std.specs.Prelude.{ℕ, ◌*◌, ◌-◌, ◌^◌, ◌≤◌, ◌<◌, ◌≡◌, ◌↔◌, List, [], ◌∷◌, ◌++◌, length, drop}
+use Rattle.std.specs.Prelude.{ℕ, ◌*◌, ◌-◌, ◌^◌, ◌≤◌, ◌<◌, ◌≡◌, ◌↔◌, List, [], ◌∷◌, ◌++◌, length, drop, Ok, Err}
 use Rattle.hexlines.specs.Numbers.{number_of}
 use Rattle.policy.specs.Model.{Range, Table, row_at}
 use Rattle.policy.specs.Wellformed.{Below}
@@ -12,7 +12,7 @@ use Rattle.prefixes.specs.Sides.{side_of}
 use Rattle.reader.specs.States.{parse}
 use Rattle.analyser.specs.Calls.{row_prefixes, prefixes_written}
 use Rattle.analyser.specs.CallAnswers.{Only, PrefixesAnswers}
-use Rattle.analyser.specs.declared.Counted.TheVariants.{Count, Refused}
+use Rattle.calls.specs.Views.{refusal}
 
 -- Of addresses of any width:
 pub record RangePrefixes : Type 0 where
@@ -53,17 +53,17 @@ pub record SidePrefixes (text : List ℕ) (t : Table) (k side : ℕ) : Type 0 wh
   pub single : (a : ℕ) → side_of side (row_at t k).selector ≡ record { low = a; high = a } → row_prefixes k side t ≡ record { address = a; length = 32 } ∷ []
   -- "write the range's prefixes .., with the count returned": five bytes each, the rest unchanged; 8 where there is no room
   pub written : (out : List ℕ) → 5 * length (row_prefixes k side t) ≤ length out
-      → Only (PrefixesAnswers (parse text) k side out) (Count (length (row_prefixes k side t)))
+      → Only (PrefixesAnswers (parse text) k side out) (Ok (length (row_prefixes k side t)))
       × (prefixes_written (parse text) k side out ≡ prefix_bytes 4 (row_prefixes k side t) ++ drop (5 * length (row_prefixes k side t)) out)
   pub short : (out : List ℕ) → length out < 5 * length (row_prefixes k side t)
-      → Only (PrefixesAnswers (parse text) k side out) (Refused 8 0) × (prefixes_written (parse text) k side out ≡ out)
+      → Only (PrefixesAnswers (parse text) k side out) (Err (refusal 8 0)) × (prefixes_written (parse text) k side out ≡ out)
 
 -- Of an accepted text (a refused one's own number and line: `RefusedText`):
 pub record PrefixPromise (text : List ℕ) (t : Table) : Type 0 where
   -- "9", whatever the side
   pub no_row : (k side : ℕ) (out : List ℕ) → length t.rows ≤ k
-      → Only (PrefixesAnswers (parse text) k side out) (Refused 9 0) × (prefixes_written (parse text) k side out ≡ out)
+      → Only (PrefixesAnswers (parse text) k side out) (Err (refusal 9 0)) × (prefixes_written (parse text) k side out ≡ out)
   -- "12 when the side is above 1, after 9 and before 8", whatever the output
   pub no_side : (k side : ℕ) (out : List ℕ) → k < length t.rows → 1 < side
-      → Only (PrefixesAnswers (parse text) k side out) (Refused 12 0) × (prefixes_written (parse text) k side out ≡ out)
+      → Only (PrefixesAnswers (parse text) k side out) (Err (refusal 12 0)) × (prefixes_written (parse text) k side out ≡ out)
   pub sides : (k side : ℕ) → k < length t.rows → side ≤ 1 → SidePrefixes text t k side

@@ -1,8 +1,9 @@
 -- Document 01, "Programs", for every input: the bytes that rowlist and strike print. Numbers of the document stand here as it prints them; of
 -- characters, ! is 33, 0 is 48, and a line feed 10. (Digits: `DigitValues`.)
 -- Assumes nothing.
-use Rattle.std.specs.Prelude.{ℕ, ◌≤◌, ◌<◌, ◌≡◌, List, [], ◌∷◌, ◌++◌, length, take, drop}
+use Rattle.std.specs.Prelude.{ℕ, ◌≤◌, ◌<◌, ◌≡◌, List, [], ◌∷◌, ◌++◌, length, take, drop, Result, Ok}
 use Rattle.base.specs.Answers.{returned, refused_by}
+use Rattle.base.specs.declared.Short.{Short}
 use Rattle.hexlines.specs.Digits.{digits_of}
 use Rattle.policy.specs.Model.{Table}
 use Rattle.reader.specs.States.{table_read, parse}
@@ -25,8 +26,8 @@ pub record ProgramPromise (prints : List ℕ → List ℕ) (of_table : List ℕ 
       → prints input ≡ 33 ∷ (digits_of number ++ (digits_of line ++ (10 ∷ [])))
   pub accepted : (input : List ℕ) (t : Table) → length input ≤ 16384 → parse input ≡ returned (table_read t) → prints input ≡ of_table input t
   -- it stands at the output's start, whole: the program writes the first n bytes, and the others are unchanged
-  pub written : (input before after : List ℕ) (n : ℕ) → space ≤ length before → Prints (prints input) before after n
-      → (take n after ≡ prints input) × (drop n after ≡ drop n before)
+  pub written : (input before after : List ℕ) (r : Result ℕ Short) → space ≤ length before → Prints (prints input) before after r
+      → (n : ℕ) × (r ≡ Ok n) × (take n after ≡ prints input) × (drop n after ≡ drop n before)
 
 pub record ProgramPromises : Type 0 where
   pub lines : EntryLines

@@ -1,13 +1,12 @@
 -- Demand 3 on dead rows, witnesses, striking and winners, for what was read of every accepted text. A call's contract is on `parse text`, which is then
 -- `returned r`. Numbers of the documents stand here as they print them.
 -- Assumes nothing.
-use Rattle.std.specs.Prelude.{ℕ, ◌≤◌, ◌<◌, ◌≡◌, ◌↔◌, ◌⊎◌, length, drop, get_or}
+use Rattle.std.specs.Prelude.{ℕ, ◌≤◌, ◌<◌, ◌≡◌, ◌↔◌, ◌⊎◌, length, drop, get_or, Result, Ok, Option, Some, None}
 use mathlib.Core.List.{List, ◌++◌, map, Memᴰ}
 use Rattle.base.specs.Answers.{returned}
 use Rattle.policy.specs.Model.{Packet, Row, Table, row_at, parent_of}
 use Rattle.policy.specs.Wellformed.{IsEntity}
-use Rattle.policy.specs.Views.{packet_of}
-use Rattle.policy.specs.declared.selector.Packet.{Packet as PacketStruct}
+use Rattle.policy.specs.Views.{PacketStruct, packet_of}
 use Rattle.relations.specs.Groups.{SameGroup, Matches, Wins, Dead}
 use Rattle.relations.specs.declared.group.Probe.{Probe}
 use Rattle.reader.specs.States.{Parsed, table_read, parse}
@@ -19,9 +18,7 @@ use Rattle.calls.specs.declared.Witness.{Witness}
 use Rattle.calls.specs.declared.Witness.TheVariants.{Dead as DeadCase, Packet as PacketCase}
 use Rattle.analyser.specs.Calls.{strike_written}
 use Rattle.analyser.specs.CallAnswers.{Only, SameAnswers, WitnessAnswers, WinnerAnswers, StrikeAnswers}
-use Rattle.analyser.specs.declared.Winner.{Winner}
-use Rattle.analyser.specs.declared.Winner.TheVariants.{Row as RowCase, Nobody as NobodyCase}
-use Rattle.analyser.specs.declared.Counted.TheVariants.{Count}
+use Rattle.frames.specs.declared.refusals.Refusal.{Refusal}
 
 -- In the group that the row g names, row i wins the probe.
 abbrev pub WinsFor : Table → Row → (i a b : ℕ) → Packet → Type 0
@@ -53,7 +50,7 @@ module _ (r : Parsed) where
   pub record StrikePromise (text : List ℕ) : Type 0 where
     -- given space, Strike writes the struck text and returns its length
     pub written : (out : List ℕ) → length (struck_text text t) ≤ length out
-        → Only (StrikeAnswers text (returned r) out) (Count (length (struck_text text t)))
+        → Only (StrikeAnswers text (returned r) out) (Ok (length (struck_text text t)))
         × (strike_written text (returned r) out ≡ struck_text text t ++ drop (length (struck_text text t)) out)
     -- it is no longer than the text
     pub shorter : length (struck_text text t) ≤ length text
@@ -76,12 +73,12 @@ module _ (r : Parsed) where
   -- "In demand 3 the winner is the one defined above; Winner returns it, whichever of the group's rows names the group."
   pub record WinnerPromise : Type 0 where
     -- a row or nobody, and no refusal
-    pub told : (g : ℕ) (p : Probe) (w : Winner) → There t g p → WinnerAnswers (returned r) g p w → ((i : ℕ) × (w ≡ RowCase i)) ⊎ (w ≡ NobodyCase)
+    pub told : (g : ℕ) (p : Probe) (w : Result (Option ℕ) Refusal) → There t g p → WinnerAnswers (returned r) g p w → ((i : ℕ) × (w ≡ Ok (Some i))) ⊎ (w ≡ Ok None)
     -- the winner is the group's first matching row, and there is none exactly when no row of the group matches
     pub first : (g : ℕ) (p : Probe) (i : ℕ) → There t g p
-        → WinnerAnswers (returned r) g p (RowCase i) ↔ WinsFor t (row_at t g) i p.source p.destination (packet_of p.packet)
+        → WinnerAnswers (returned r) g p (Ok (Some i)) ↔ WinsFor t (row_at t g) i p.source p.destination (packet_of p.packet)
     pub unmatched : (g : ℕ) (p : Probe) → There t g p
-        → WinnerAnswers (returned r) g p NobodyCase
+        → WinnerAnswers (returned r) g p (Ok None)
         ↔ ((i : ℕ) → i < length t.rows → SameGroup (row_at t i) (row_at t g)
         → Matches (parent_of t) (row_at t i) p.source p.destination (packet_of p.packet) → ⊥)
     pub named : (g h : ℕ) (p : Probe) → g < length t.rows → h < length t.rows → SameGroup (row_at t g) (row_at t h)

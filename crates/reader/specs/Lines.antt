@@ -1,7 +1,9 @@
 -- Document 01, "The table text": "each line ended by a line feed".
 -- Assumes nothing.
-use Rattle.std.specs.Prelude.{ℕ, zero, suc, true, false, List, [], ◌∷◌, ◌++◌, eqb}
+use Rattle.std.specs.Prelude.{ℕ, zero, suc, ◌≡◌, true, false, Option, Some, None, List, [], ◌∷◌, ◌++◌, eqb}
+use Rattle.std.specs.Borrow.{Bor}
 use Rattle.base.specs.Truths.{pick}
+use Rattle.reader.specs.declared.lines.Lines.{Lines}
 
 abbrev pub line_feed : ℕ
 line_feed = 10
@@ -41,3 +43,12 @@ abbrev pub line_start : List ℕ → ℕ → ℕ
 line_start text zero = 0
 line_start [] (suc n) = 0
 line_start (c ∷ text) (suc n) = suc (pick (eqb c line_feed) (line_start text n) (line_start text (suc n)))
+
+-- ---- one line after the other
+
+-- What is given of the lines that are unread: the first one, and what follows its line feed is unread then; where there is none, what is
+-- unread stays so.
+abbrev pub GivesLine : Lines → Option (Bor (List ℕ)) → Lines → Type 0
+GivesLine before None after = (lines_of before.unread.now ≡ []) × (after.unread.now ≡ before.unread.now)
+GivesLine before (Some line) after =
+    (lines_of before.unread.now ≡ line.now ∷ lines_of after.unread.now) × (rest_of before.unread.now ≡ rest_of after.unread.now)

@@ -29,6 +29,10 @@ unfoldable pub checks : Progress → Frame → List Check
 checks p (a_frame k v) = or_else ((describe k).placed p v) out_of_sequence ∷ (describe k).content p.table v
 checks p no_frame = or_else false wrong_form ∷ []
 
+-- What a line must keep here: 1 that it is one, and what its frame must keep.
+abbrev pub line_checks : Progress → List ℕ → List Check
+line_checks p line = or_else (is_line line) no_line ∷ checks p (frame_of (bytes_of line))
+
 -- With the frame's value.
 unfoldable pub grown : Progress → Frame → Progress
 grown p (a_frame k v) = (describe k).grown v p

@@ -1,11 +1,13 @@
 // The reader's state, a struct by value: what judging the next line needs. A method takes self and one line and hands back the next state.
-ghost use Rattle.std.specs.Prelude.{◌≡◌};
+ghost use Rattle.std.specs.Prelude.{◌≡◌, None};
 ghost use Rattle.hexlines.specs.Lines.{bytes_of};
 ghost use Rattle.frames.specs.Progress.{nothing};
+ghost use Rattle.frames.specs.Views.{number_of};
 ghost use Rattle.frames.specs.Kinds.{of_entity, of_cap, of_floor, of_filter, of_row};
 ghost use Rattle.reader.specs.States.{reading, step};
-ghost use Rattle.reader.specs.Views.{Ready, Reads, Moves, Refuses, Takes};
+ghost use Rattle.reader.specs.Views.{Ready, Reads, IsNext, Moves, Refuses, Takes, TakesLine};
 
+use frames::refusals::{Reason, Refusal};
 use frames::widths::ADDRESS;
 use frames::{cap, entity, filter, floor, refusals, row};
 use policy::limits::{ENTITIES, NO_PARENT, TECHNOLOGIES};
@@ -13,6 +15,7 @@ use policy::row::Coefficients;
 use policy::table;
 use policy::table::{Caps, PerEntity};
 
+// As it is: arrays with their counts, as the table's, which they become.
 // Of a table so far: its entities, caps and floor, and how many filters and rows there are, but not what they say.
 #[derive(Drop)]
 pub struct State {
@@ -23,13 +26,12 @@ pub struct State {
     pub capped: usize,
     pub caps: Caps,
     pub floor: Coefficients,
-    // 1 once the floor has been read, else 0
-    pub floored: u8,
+    // whether the floor has been read
+    pub floored: bool,
     pub filters: usize,
     pub rows: usize,
-    // the number of the refusal, or 0, and its line
-    pub number: u8,
-    pub line: u8,
+    // why and at which line the text is refused, once it is
+    pub refusal: Option<Refusal>,
 }
 
 impl State {
@@ -50,11 +52,24 @@ impl State {
             capped: 0,
             caps: [zero; TECHNOLOGIES],
             floor: zero,
-            floored: 0,
+            floored: false,
             filters: 0,
             rows: 0,
-            number: 0,
-            line: 0,
+            refusal: None,
+        }
+    }
+
+    // The refusal by this number at the line after those that have been read.
+    pub fn refusal_by(&self, number: u8) -> Refusal
+        requires { Ready self.now }
+        ensures { IsNext self.now number result }
+    {
+        let floored = u8::from(self.floored);
+        let before = table::lines_before(self.entities, self.capped, floored, self.filters);
+        let line = before + self.rows + 1;
+        Refusal {
+            number,
+            line: line as u8,
         }
     }
 
@@ -63,124 +78,93 @@ impl State {
         requires { Ready self × (number ≡ 0 → ⊥) }
         ensures { Refuses self number result }
     {
-        let before = table::lines_before(self.entities, self.capped, self.floored, self.filters);
-        let line = before + self.rows + 1;
-        self.line = line as u8;
-        self.number = number;
+        self.refusal = Some(self.refusal_by(number));
         self
     }
 
-    // An entity's line, after its kind byte: with its value, or refused.
-    fn take_entity(mut self, part: &[u8]) -> State
-        requires { Ready self × (self.number ≡ 0) }
-        ensures { Takes self of_entity (bytes_of part.now) result }
+    // An entity's line, after its kind byte: its value is taken, or nothing changes.
+    // As it is: a function for each kind and no trait, since each asks for other counts and stores its value elsewhere: its impl would be as long.
+    fn take_entity(&mut self, part: &[u8]) -> Result<(), Reason>
+        requires { Ready self.old }
+        ensures { Takes self.old of_entity (bytes_of part.now) result self.new }
     {
-        let n = refusals::misfit(
+        refusals::misfit(
             entity::has_length(part),
             entity::has_place(self.capped, self.entities),
-        );
-        if n != 0 {
-            return self.refuse(n);
-        }
-        let e = entity::read(part);
-        let m = entity::broken(&self.layers, self.entities, e);
-        if m != 0 {
-            return self.refuse(m);
-        }
+        )?;
         let k = self.entities;
+        let e = entity::read(part);
+        entity::broken(&self.layers[..k], e)?;
         self.parents[k] = e.parent;
         self.layers[k] = e.layer;
         self.masks[k] = e.mask;
         self.entities = k + 1;
-        self
+        Ok(())
     }
 
-    // A cap's line, after its kind byte: with its value, or refused.
-    fn take_cap(mut self, part: &[u8]) -> State
-        requires { Ready self × (self.number ≡ 0) }
-        ensures { Takes self of_cap (bytes_of part.now) result }
+    // A cap's line, after its kind byte: its value is taken, or nothing changes.
+    fn take_cap(&mut self, part: &[u8]) -> Result<(), Reason>
+        requires { Ready self.old }
+        ensures { Takes self.old of_cap (bytes_of part.now) result self.new }
     {
-        let n = refusals::misfit(
+        refusals::misfit(
             cap::has_length(part),
             cap::has_place(self.entities, self.capped, cap::technology(part)),
-        );
-        if n != 0 {
-            return self.refuse(n);
-        }
+        )?;
         let k = self.capped;
         self.caps[k] = cap::read(part);
         self.capped = k + 1;
-        self
+        Ok(())
     }
 
-    // The floor's line, after its kind byte: with its value, or refused.
-    fn take_floor(mut self, part: &[u8]) -> State
-        requires { Ready self × (self.number ≡ 0) }
-        ensures { Takes self of_floor (bytes_of part.now) result }
+    // The floor's line, after its kind byte: its value is taken, or nothing changes.
+    fn take_floor(&mut self, part: &[u8]) -> Result<(), Reason>
+        requires { Ready self.old }
+        ensures { Takes self.old of_floor (bytes_of part.now) result self.new }
     {
-        let n = refusals::misfit(
+        refusals::misfit(
             floor::has_length(part),
-            floor::has_place(self.capped, self.floored),
-        );
-        if n != 0 {
-            return self.refuse(n);
-        }
+            floor::has_place(self.capped, u8::from(self.floored)),
+        )?;
         self.floor = floor::read(part);
-        self.floored = 1;
-        self
+        self.floored = true;
+        Ok(())
     }
 
-    // A filter's line, after its kind byte: with one filter more, or refused.
-    fn take_filter(mut self, part: &[u8]) -> State
-        requires { Ready self × (self.number ≡ 0) }
-        ensures { Takes self of_filter (bytes_of part.now) result }
+    // A filter's line, after its kind byte: one filter more is counted, or nothing changes.
+    fn take_filter(&mut self, part: &[u8]) -> Result<(), Reason>
+        requires { Ready self.old }
+        ensures { Takes self.old of_filter (bytes_of part.now) result self.new }
     {
-        let n = refusals::misfit(
+        refusals::misfit(
             filter::has_length(part),
-            filter::has_place(self.floored, self.rows, self.filters),
-        );
-        if n != 0 {
-            return self.refuse(n);
-        }
-        let m = filter::broken(&self.parents, self.entities, filter::read(part));
-        if m != 0 {
-            return self.refuse(m);
-        }
+            filter::has_place(u8::from(self.floored), self.rows, self.filters),
+        )?;
+        filter::broken(&self.parents[..self.entities], filter::read(part))?;
         self.filters += 1;
-        self
+        Ok(())
     }
 
-    // A row's line, after its kind byte: with one row more, or refused.
-    fn take_row(mut self, part: &[u8]) -> State
-        requires { Ready self × (self.number ≡ 0) }
-        ensures { Takes self of_row (bytes_of part.now) result }
+    // A row's line, after its kind byte: one row more is counted, or nothing changes.
+    fn take_row(&mut self, part: &[u8]) -> Result<(), Reason>
+        requires { Ready self.old }
+        ensures { Takes self.old of_row (bytes_of part.now) result self.new }
     {
-        let n = refusals::misfit(
+        refusals::misfit(
             row::has_length(part, ADDRESS),
-            row::has_place(self.floored, self.rows),
-        );
-        if n != 0 {
-            return self.refuse(n);
-        }
-        let m = row::broken(&self.parents, self.entities, row::read(part, ADDRESS));
-        if m != 0 {
-            return self.refuse(m);
-        }
+            row::has_place(u8::from(self.floored), self.rows),
+        )?;
+        row::broken(&self.parents[..self.entities], row::read(part, ADDRESS))?;
         self.rows += 1;
-        self
+        Ok(())
     }
 
-    // One line, without its line feed. The first byte chooses the frame's own reader, which is given the rest of the line.
-    pub fn next(self, line: &[u8]) -> State
-        requires { Ready self }
-        ensures { Moves self (λ s. step s line.now) result }
+    // A line: what it says is taken, or nothing changes. The first byte chooses the frame's own reader, which is given the rest of the line.
+    fn take(&mut self, line: &[u8]) -> Result<(), Reason>
+        requires { Ready self.old }
+        ensures { TakesLine self.old line.now result self.new }
     {
-        if self.number != 0 {
-            return self;
-        }
-        if !hexlines::is_line(line) {
-            return self.refuse(refusals::NO_LINE);
-        }
+        refusals::keep(hexlines::is_line(line), Reason::NoLine)?;
         let rest = &line[2..];
         match hexlines::u8_at(line, 0) {
             1 => self.take_entity(rest),
@@ -188,7 +172,21 @@ impl State {
             3 => self.take_floor(rest),
             4 => self.take_filter(rest),
             5 => self.take_row(rest),
-            _ => self.refuse(refusals::WRONG_FORM),
+            _ => Err(Reason::WrongForm),
+        }
+    }
+
+    // One line, without its line feed. A state that is refused stays so.
+    pub fn next(mut self, line: &[u8]) -> State
+        requires { Ready self }
+        ensures { Moves self (λ s. step s line.now) result }
+    {
+        if self.refusal.is_some() {
+            return self;
+        }
+        match self.take(line) {
+            Ok(()) => self,
+            Err(reason) => self.refuse(reason.number()),
         }
     }
 }

@@ -1,7 +1,7 @@
 -- The laws that crates above cite.
 pub mod Relations
-pub mod Parents
 pub mod Entities
+pub mod Climbs
 pub mod Technologies
 pub mod Coefficients
 pub mod Selectors

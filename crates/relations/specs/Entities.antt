@@ -1,6 +1,6 @@
 -- Document 01, "Relations": entities; document 02, [2]: "the lowest entity that is ⪰ both". `up e` is e's parent, FF for a root.
 -- Assumes nothing.
-use Rattle.std.specs.Prelude.{ℕ, zero, suc, ◌<◌, ◌≡◌, Bool, true, false, eqb, length}
+use Rattle.std.specs.Prelude.{ℕ, zero, suc, ◌<◌, ◌≡◌, Bool, true, false, eqb, length, drop}
 use mathlib.Core.List.{List, [], ◌∷◌, Memᴰ}
 use Rattle.policy.specs.Limits.{most_entities}
 use Rattle.policy.specs.Model.{no_parent}
@@ -8,6 +8,7 @@ use Rattle.policy.specs.Views.{parent_in}
 use Rattle.base.specs.Truths.{pick}
 use Rattle.base.specs.Lists.{among}
 use Rattle.relations.specs.Relations.{relation_by}
+use Rattle.relations.specs.declared.entity.Climb.{Climb}
 use Rattle.relations.specs.declared.relation.Relation.{Relation}
 use Rattle.relations.specs.declared.relation.Relation.TheVariants.{Equal, Above, Below, Kin, Disjoint}
 
@@ -34,6 +35,17 @@ upward up (suc n) e = e ∷ elim (eqb (up e) no_parent) [ true ↦ [] | false �
 -- e and its parents upward. Parents are earlier, so that there are no more than e + 1.
 unfoldable pub ancestors : (ℕ → ℕ) → ℕ → List ℕ
 ancestors up e = upward up (suc e) e
+
+-- e's parents upward.
+abbrev pub above : (ℕ → ℕ) → ℕ → List ℕ
+above up e = drop 1 (ancestors up e)
+
+-- What a climb has still to come by, and what is asked of it.
+abbrev pub left_above : Climb → List ℕ
+left_above c = above (parent_in c.parents.now) c.at
+
+abbrev pub CanClimb : Climb → Type 0
+CanClimb c = Parents c.parents.now × (c.at < most_entities)
 
 -- The last of a list, or d where it is empty.
 abbrev pub last_of : ℕ → List ℕ → ℕ

@@ -1,6 +1,6 @@
 -- Document 01, "Relations": groups, probes and winners.
 -- Assumes nothing.
-use Rattle.std.specs.Prelude.{ℕ, suc, ◌<◌, ◌≡◌, Bool, true, false, ◌&&◌, List, [], ◌∷◌, eqb, length, get_or}
+use Rattle.std.specs.Prelude.{ℕ, suc, ◌<◌, ◌≡◌, Bool, true, false, ◌&&◌, List, [], ◌∷◌, eqb, length, get_or, Option, Some, None}
 use Rattle.policy.specs.Model.{Packet, Row, Table, no_row, row_at, parent_of}
 use Rattle.policy.specs.Wellformed.{IsEntity}
 use Rattle.base.specs.Lists.{same}
@@ -8,8 +8,6 @@ use Rattle.relations.specs.Entities.{AtOrAbove, at_or_above}
 use Rattle.relations.specs.Selectors.{Holds, holds}
 use Rattle.policy.specs.Views.{packet_of}
 use Rattle.relations.specs.declared.group.Probe.{Probe as ProbeStruct}
-use Rattle.relations.specs.declared.group.Outcome.{Outcome}
-use Rattle.relations.specs.declared.group.Outcome.TheVariants.{Won, Nobody}
 
 -- "A group is all rows with equal holder, t and G."
 pub record SameGroup (r q : Row) : Type 0 where
@@ -48,18 +46,18 @@ pub record Hides (t : Table) (j i : ℕ) (p : Packet) : Type 0 where
   pub packet : Holds (row_at t j).selector p
 
 -- The first row of the list, counted from i, that is of g's group and matches the probe.
-unfoldable pub winner_from : (ℕ → ℕ) → Row → ℕ → ℕ → Packet → ℕ → List Row → Outcome
-winner_from up g a b p i [] = Nobody
+unfoldable pub winner_from : (ℕ → ℕ) → Row → ℕ → ℕ → Packet → ℕ → List Row → Option ℕ
+winner_from up g a b p i [] = None
 winner_from up g a b p i (r ∷ rs) =
-    elim (same_group r g && matches up r a b p) [ true ↦ Won i | false ↦ winner_from up g a b p (suc i) rs ]
+    elim (same_group r g && matches up r a b p) [ true ↦ Some i | false ↦ winner_from up g a b p (suc i) rs ]
 
 -- The winner of a probe in the group that row g names.
-unfoldable pub winner_in : (ℕ → ℕ) → List Row → ℕ → ℕ → ℕ → Packet → Outcome
+unfoldable pub winner_in : (ℕ → ℕ) → List Row → ℕ → ℕ → ℕ → Packet → Option ℕ
 winner_in up rows g a b p = winner_from up (get_or rows g no_row) a b p 0 rows
 
 -- The same, of the probe that a struct holds.
-abbrev pub winner_of_probe : (ℕ → ℕ) → List Row → ℕ → ProbeStruct → Outcome
+abbrev pub winner_of_probe : (ℕ → ℕ) → List Row → ℕ → ProbeStruct → Option ℕ
 winner_of_probe up rows g p = winner_in up rows g p.source p.destination (packet_of p.packet)
 
-abbrev pub winner : Table → ℕ → ℕ → ℕ → Packet → Outcome
+abbrev pub winner : Table → ℕ → ℕ → ℕ → Packet → Option ℕ
 winner t g a b p = winner_in (parent_of t) t.rows g a b p

@@ -7,97 +7,62 @@ ghost use Rattle.relations.specs.Entities.{TwoEntities};
 ghost use Rattle.relations.specs.Groups.{same_group, matches as matches_test, winner_of_probe};
 
 use crate::{entity, selector};
-use policy::row::{Gateways, Row};
+use policy::row::Row;
 use policy::selector::Packet;
-use policy::table;
-use policy::table::{Bounds, Heads, PerEntity};
-
-// Who wins a probe: the row of this number, or nobody.
-#[derive(Clone, Copy)]
-pub enum Outcome {
-    Won(usize),
-    Nobody,
-}
+use policy::table::{PerEntity, Table};
 
 // Two entities and a packet.
-#[derive(Clone, Copy)]
+#[derive(Clone, Copy, Debug, PartialEq, Eq)]
 pub struct Probe {
     pub source: u8,
     pub destination: u8,
     pub packet: Packet,
 }
 
-// Whether the first n of both arrays are the same.
-fn same_first(a: Gateways, b: Gateways, n: usize) -> bool
-    requires { n ≤ most_gateways }
-    ensures { result ≡ same (take n a) (take n b) }
-{
-    let mut k = 0;
-    while k < n {
-        if a[k] != b[k] {
-            return false;
-        }
-        k += 1;
-    }
-    true
-}
-
 // Whether a and b have the same gateways.
+// As it is: compared in pairs, since with `==` of both rows' lists same_group takes 27 ns and so 5.
 pub fn same_gateways(a: Row, b: Row) -> bool
     ensures { result ≡ same (row_of a).gateways (row_of b).gateways }
 {
     let n = a.gateway_count();
-    if n != b.gateway_count() {
-        return false;
-    }
-    let x = a.gateways;
-    let y = b.gateways;
-    same_first(x, y, n)
+    n == b.gateway_count()
+        && a.gateways
+            .iter()
+            .zip(&b.gateways)
+            .take(n)
+            .all(|(x, y)| x == y)
 }
 
 // Whether a and b are of one group: equal holder, technology and gateways.
+#[tactic(auto, unfolding(crate::specs::Groups::same_group))]
 pub fn same_group(a: Row, b: Row) -> bool
     ensures { result ≡ same_group (row_of a) (row_of b) }
 {
-    if a.holder != b.holder {
-        return false;
-    }
-    if a.technology != b.technology {
-        return false;
-    }
-    same_gateways(a, b)
+    a.holder == b.holder && a.technology == b.technology && same_gateways(a, b)
 }
 
 // Whether the row matches the probe.
+#[tactic(auto, unfolding(crate::specs::Groups::matches))]
 pub fn matches(parents: &PerEntity, r: Row, p: Probe) -> bool
     requires { TwoEntities parents.now p.source p.destination }
     ensures { result ≡ matches_test (parent_in parents.now) (row_of r) p.source p.destination (packet_of p.packet) }
 {
     entity::at_or_above(parents, r.source, p.source)
-        & (entity::at_or_above(parents, r.destination, p.destination)
-            & selector::holds(r.selector, p.packet))
+        && entity::at_or_above(parents, r.destination, p.destination)
+        && selector::holds(r.selector, p.packet)
 }
 
-// The row that wins the probe in the group that row g names: the first of the `rows` that is of the group and matches.
-pub fn winner<'a>(
-    parents: &'a PerEntity,
-    heads: &'a Heads,
-    bounds: &'a Bounds,
-    rows: usize,
-    g: usize,
-    p: Probe,
-) -> Outcome
-    requires { TwoEntities parents.now p.source p.destination × (g < rows) × (rows ≤ most_rows) }
-    ensures { result ≡ winner_of_probe (parent_in parents.now) (rows_in heads.now bounds.now rows) g p }
+// The row that wins the probe in the group that row g names: the first of the table's rows that is of the group and matches, or none.
+pub fn winner(t: &Table, g: usize, p: Probe) -> Option<usize>
+    requires { TwoEntities t.now.parents p.source p.destination × (g < t.now.rows) × (t.now.rows ≤ most_rows) }
+    ensures { result ≡ winner_of_probe (parent_in t.now.parents) (rows_in t.now.heads t.now.bounds t.now.rows) g p }
 {
-    let named = table::row_at(heads, bounds, g);
-    let mut i = 0;
-    while i < rows {
-        let r = table::row_at(heads, bounds, i);
-        if same_group(r, named) & matches(parents, r, p) {
-            return Outcome::Won(i);
+    let named = t.row(g);
+    for i in 0..t.rows {
+        let r = t.row(i);
+        if same_group(r, named) & matches(&t.parents, r, p) {
+            return Some(i);
         }
-        i += 1;
     }
-    Outcome::Nobody
+    None
 }

@@ -10,7 +10,7 @@ use policy::selector::Range;
 pub fn holds(r: Range, x: Number) -> bool
     ensures { result ≡ within (range_of r) (value x) }
 {
-    r.low.at_most(x) & x.at_most(r.high)
+    r.low.at_most(x) && x.at_most(r.high)
 }
 
 // The range of the numbers that are in both.
@@ -24,6 +24,7 @@ pub fn meet(r: Range, q: Range) -> Range
 }
 
 // The smallest range that holds both.
+// As it is: one function for this and `meet` would be handed `lesser` and `greater` in turn, in as many lines.
 pub fn hull(r: Range, q: Range) -> Range
     ensures { range_of result ≡ hull_range (range_of r) (range_of q) }
 {

@@ -3,7 +3,7 @@ ghost use Rattle.std.specs.Prelude.{◌≡◌};
 ghost use Rattle.relations.specs.Relations.{relation_by};
 
 // One of five, and no two.
-#[derive(Clone, Copy)]
+#[derive(Clone, Copy, Debug, PartialEq, Eq)]
 pub enum Relation {
     Equal,
     // the first ⪰ the second, or dominates it
@@ -19,16 +19,14 @@ pub fn by(equal: bool, above: bool, below: bool, kin: bool) -> Relation
     ensures { result ≡ relation_by equal above below kin }
 {
     if equal {
-        return Relation::Equal;
+        Relation::Equal
+    } else if above {
+        Relation::Above
+    } else if below {
+        Relation::Below
+    } else if kin {
+        Relation::Kin
+    } else {
+        Relation::Disjoint
     }
-    if above {
-        return Relation::Above;
-    }
-    if below {
-        return Relation::Below;
-    }
-    if kin {
-        return Relation::Kin;
-    }
-    Relation::Disjoint
 }

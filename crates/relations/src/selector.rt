@@ -10,36 +10,14 @@ use policy::selector::{Packet, Selector};
 fn lowest(s: Selector) -> Packet
     ensures { packet_of result ≡ lows (selector_of s) }
 {
-    let source_address = s.source_address.low;
-    let destination_address = s.destination_address.low;
-    let source_port = s.source_port.low;
-    let destination_port = s.destination_port.low;
-    let protocol = s.protocol.low;
-    Packet {
-        source_address,
-        destination_address,
-        source_port,
-        destination_port,
-        protocol,
-    }
+    s.map(|r| r.low)
 }
 
 // The packet of the highs.
 fn highest(s: Selector) -> Packet
     ensures { packet_of result ≡ highs (selector_of s) }
 {
-    let source_address = s.source_address.high;
-    let destination_address = s.destination_address.high;
-    let source_port = s.source_port.high;
-    let destination_port = s.destination_port.high;
-    let protocol = s.protocol.high;
-    Packet {
-        source_address,
-        destination_address,
-        source_port,
-        destination_port,
-        protocol,
-    }
+    s.map(|r| r.high)
 }
 
 // Whether no number of p is above that of q in the same field.
@@ -47,41 +25,45 @@ fn none_above(p: Packet, q: Packet) -> bool
     ensures { result ≡ none_above (packet_of p) (packet_of q) }
 {
     p.source_address.at_most(q.source_address)
-        & (p.destination_address.at_most(q.destination_address)
-            & (p.source_port.at_most(q.source_port)
-                & (p.destination_port.at_most(q.destination_port)
-                    & p.protocol.at_most(q.protocol))))
+        && p.destination_address.at_most(q.destination_address)
+        && p.source_port.at_most(q.source_port)
+        && p.destination_port.at_most(q.destination_port)
+        && p.protocol.at_most(q.protocol)
 }
 
 // Whether the packet is in the selector.
+#[tactic(auto, using(crate::proofs::Laws::Selectors::holds_ends))]
 pub fn holds(s: Selector, p: Packet) -> bool
     ensures { result ≡ holds_test (selector_of s) (packet_of p) }
 {
-    none_above(lowest(s), p) & none_above(p, highest(s))
+    none_above(lowest(s), p) && none_above(p, highest(s))
 }
 
 // Whether every packet of b is in a, where both have packets.
+#[tactic(auto, using(crate::proofs::Laws::Selectors::contains_ends))]
 pub fn contains(a: Selector, b: Selector) -> bool
     ensures { result ≡ contains_test (selector_of a) (selector_of b) }
 {
-    none_above(lowest(a), lowest(b)) & none_above(highest(b), highest(a))
+    none_above(lowest(a), lowest(b)) && none_above(highest(b), highest(a))
 }
 
 // Whether some packet is in both, where each has one.
+#[tactic(auto, using(crate::proofs::Laws::Selectors::overlaps_ends))]
 pub fn overlaps(a: Selector, b: Selector) -> bool
     ensures { result ≡ overlaps_test (selector_of a) (selector_of b) }
 {
-    none_above(lowest(a), highest(b)) & none_above(lowest(b), highest(a))
+    none_above(lowest(a), highest(b)) && none_above(lowest(b), highest(a))
 }
 
 // Whether the two are the same.
 pub fn equals(a: Selector, b: Selector) -> bool
     ensures { result ≡ same_selector (selector_of a) (selector_of b) }
 {
-    contains(a, b) & contains(b, a)
+    a == b
 }
 
 // Whether some packet is in the selector.
+#[tactic(auto, using(crate::proofs::Laws::Selectors::inhabited_ends))]
 pub fn inhabited(s: Selector) -> bool
     ensures { result ≡ inhabited_test (selector_of s) }
 {
@@ -89,45 +71,31 @@ pub fn inhabited(s: Selector) -> bool
 }
 
 // The selector of the packets that are in both.
+#[tactic(auto, unfolding(crate::specs::Selectors::meet))]
 pub fn meet(a: Selector, b: Selector) -> Selector
     ensures { selector_of result ≡ meet_of (selector_of a) (selector_of b) }
 {
-    Selector {
-        source_address: range::meet(a.source_address, b.source_address),
-        destination_address: range::meet(a.destination_address, b.destination_address),
-        source_port: range::meet(a.source_port, b.source_port),
-        destination_port: range::meet(a.destination_port, b.destination_port),
-        protocol: range::meet(a.protocol, b.protocol),
-    }
+    a.zip(b, range::meet)
 }
 
 // The smallest selector that holds both.
+#[tactic(auto, unfolding(crate::specs::Selectors::hull))]
 pub fn hull(a: Selector, b: Selector) -> Selector
     ensures { selector_of result ≡ hull_of (selector_of a) (selector_of b) }
 {
-    Selector {
-        source_address: range::hull(a.source_address, b.source_address),
-        destination_address: range::hull(a.destination_address, b.destination_address),
-        source_port: range::hull(a.source_port, b.source_port),
-        destination_port: range::hull(a.destination_port, b.destination_port),
-        protocol: range::hull(a.protocol, b.protocol),
-    }
+    a.zip(b, range::hull)
 }
 
 // The selector with source and destination fields exchanged.
+#[tactic(auto, unfolding(crate::specs::Selectors::exchange))]
 pub fn exchanged(s: Selector) -> Selector
     ensures { selector_of result ≡ exchange (selector_of s) }
 {
-    let source_address = s.destination_address;
-    let destination_address = s.source_address;
-    let source_port = s.destination_port;
-    let destination_port = s.source_port;
-    let protocol = s.protocol;
     Selector {
-        source_address,
-        destination_address,
-        source_port,
-        destination_port,
-        protocol,
+        source_address: s.destination_address,
+        destination_address: s.source_address,
+        source_port: s.destination_port,
+        destination_port: s.source_port,
+        ..s
     }
 }

@@ -3,14 +3,14 @@
 
 use printing::limits;
 
+// As it is: as in `strike`, but for the function and the room; one main for both would be handed the two, in as many lines.
 fn main(rt: HostRuntime) {
     let mut input = [0u8; limits::INPUT_BUFFER];
-    let got = standard::read(&rt, &mut input);
-    if got.failed {
+    let Ok(length) = standard::read(&rt, &mut input) else {
         return;
-    }
-    let length = got.length;
+    };
     let mut out = [0u8; limits::PRINTED];
-    let n = printing::rowlist(&input[..length], &mut out);
-    standard::print(&rt, &out[..n]);
+    if let Ok(n) = printing::rowlist(&input[..length], &mut out) {
+        standard::print(&rt, &out[..n]);
+    }
 }

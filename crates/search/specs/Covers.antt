@@ -1,6 +1,8 @@
 -- Covers: what a part of the search that finds nothing has learnt, a set of boxes.
 -- Assumes nothing.
-use Rattle.std.specs.Prelude.{ℕ, ◌+◌, ◌^◌, ◌≤◌, ◌≡◌, ◌||◌, ◌⊎◌, List, [], ◌∷◌, map, eqb, ltb, get_or}
+use Rattle.std.specs.Prelude.{ℕ, ◌+◌, ◌^◌, ◌≤◌, ◌≡◌, ◌⊎◌, List, [], ◌∷◌, map, eqb, ltb, get_or, Bool, true, false, Option, Some, None, MatchOption}
+use Rattle.std.specs.Option.{unwrap_or}
+use Rattle.std.specs.List.{find}
 use Rattle.std.specs.Int.Bits.{bit_and}
 use Rattle.base.specs.Truths.{pick}
 use Rattle.policy.specs.Model.{Range, Selector}
@@ -37,8 +39,9 @@ pub record Follows (high : ℕ → ℕ) (set top : ℕ) (n : NextValue) : Type 0
   pub next : n ≡ past least top
 
 -- The first candidate of a field for which this cover is known: none, and the row's low where none is known.
-abbrev pub opening : ℕ → ℕ → NextValue
-opening cover low = pick (eqb cover 0) (comes low) end
+abbrev pub opening : Option ℕ → ℕ → NextValue
+opening (Some cover) low = end
+opening None low = comes low
 
 -- Of the boxes of the set those whose field holds v.
 abbrev pub Holding : (field : ℕ → Range) (set v k : ℕ) → Type 0
@@ -51,9 +54,9 @@ pub record Furthest (field : ℕ → Range) (set v one : ℕ) : Type 0 where
   pub among : Holding field set v place
   pub furthest : (k : ℕ) → Holding field set v k → (field k).high ≤ (field place).high
 
--- Such a box, or 0 where none of the set holds v.
-abbrev pub FurthestIfAny : (field : ℕ → Range) (set v one : ℕ) → Type 0
-FurthestIfAny field set v one = Furthest field set v one ⊎ ((one ≡ 0) × ((k : ℕ) → Holding field set v k → ⊥))
+-- Such a box, or none where none of the set holds v.
+abbrev pub FurthestIfAny : (field : ℕ → Range) (set v : ℕ) → Option ℕ → Type 0
+FurthestIfAny field set v one = MatchOption one ((k : ℕ) → Holding field set v k → ⊥) (Furthest field set v)
 
 -- ---- covers that are kept
 
@@ -61,12 +64,21 @@ FurthestIfAny field set v one = Furthest field set v one ⊎ ((one ≡ 0) × ((k
 abbrev pub kept_covers : ℕ
 kept_covers = 16
 
--- The first of the kept covers whose boxes are all in the set. 0 stands for no cover, and ends them.
-unfoldable pub recall : ℕ → List ℕ → ℕ
-recall set [] = 0
-recall set (c ∷ cs) = pick (eqb (bit_and c set) c) c (recall set cs)
+-- There is a cover, and its boxes are all in the set.
+abbrev pub serves : ℕ → Option ℕ → Bool
+serves set None = false
+serves set (Some c) = eqb (bit_and c set) c
 
--- The covers with x before them: each goes to the place of the next, up to one that is 0 or c, which goes.
-unfoldable pub shifted : ℕ → ℕ → List ℕ → List ℕ
+-- The first of the kept covers whose boxes are all in the set.
+abbrev pub recall : ℕ → List (Option ℕ) → Option ℕ
+recall set kept = unwrap_or (find (serves set) kept) None
+
+-- This is no cover, or is c.
+abbrev pub ends : ℕ → Option ℕ → Bool
+ends c None = true
+ends c (Some y) = eqb y c
+
+-- The covers with x before them: each goes to the place of the next, up to an empty place or c, which goes.
+unfoldable pub shifted : ℕ → Option ℕ → List (Option ℕ) → List (Option ℕ)
 shifted c x [] = []
-shifted c x (y ∷ ys) = x ∷ pick (eqb y 0 || eqb y c) ys (shifted c y ys)
+shifted c x (y ∷ ys) = x ∷ pick (ends c y) ys (shifted c y ys)

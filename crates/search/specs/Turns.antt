@@ -1,6 +1,6 @@
 -- The fields in another order: from one of them on, and round to those before it. For any number of fields.
 -- Assumes nothing.
-use Rattle.std.specs.Prelude.{ℕ, ◌≡◌, List, ◌++◌, take, drop}
+use Rattle.std.specs.Prelude.{ℕ, ◌≡◌, List, ◌++◌, take, drop, Option, None}
 use Rattle.covers.specs.Least.{SearchResult, found, none}
 use Rattle.search.specs.Views.{values_of}
 use Rattle.search.specs.declared.walk.Ended.{Ended}
@@ -10,8 +10,8 @@ use Rattle.search.specs.declared.walk.Ended.TheVariants.{Free, Covered, Stopped}
 unfoldable pub turned : {A : Type 0} → ℕ → List A → List A
 turned n l = drop n l ++ take n l
 
--- What a walk's end tells of the search's answer o: which it is, or, if the walk was stopped, that it had a limit; 0 stands for none.
-abbrev pub Tells : ℕ → SearchResult → Ended → Type 0
+-- What a walk's end tells of the search's answer o: which it is, or, if the walk was stopped, that it had a limit.
+abbrev pub Tells : Option ℕ → SearchResult → Ended → Type 0
 Tells limit o (Free v) = found (values_of v) ≡ o
 Tells limit o Covered = none ≡ o
-Tells limit o Stopped = limit ≡ 0 → ⊥
+Tells limit o Stopped = limit ≡ None → ⊥

@@ -1,42 +1,43 @@
-// The covers that a walk keeps for a field, the one that served last first; 0 stands for none.
-ghost use Rattle.std.specs.Prelude.{◌≡◌, length};
-ghost use Rattle.search.specs.Covers.{kept_covers, recall, shifted};
+// The covers that a walk keeps for a field, the one that served last first.
+ghost use Rattle.std.specs.Prelude.{◌≡◌, replicate, Some, None};
+ghost use Rattle.search.specs.Covers.{kept_covers, serves, recall, shifted};
 
 // How many are kept.
-pub const COVERS: usize = 16;
+const COVERS: usize = 16;
 
-pub type Kept = [u64; COVERS];
+// Those that there are come before the empty places.
+#[derive(Drop)]
+pub struct Kept([Option<u64>; COVERS]);
 
-// The first kept cover whose boxes are all in the set, or 0. The covers are lent, and left unchanged.
-pub fn recalled(kept: &Kept, set: u64) -> u64
-    requires { length kept.now ≡ kept_covers }
-    ensures { result ≡ recall set kept.now }
-{
-    let mut j = 0;
-    while j < COVERS {
-        let c = kept[j];
-        if c & set == c {
-            return c;
-        }
-        j += 1;
+impl Kept {
+    // No covers yet.
+    pub fn new() -> Kept
+        ensures { result.0 ≡ replicate kept_covers None }
+    {
+        Kept([None; COVERS])
     }
-    0
-}
 
-// Puts the cover before the others. If it was among them it goes from there; else the last goes, where there is no room.
-pub fn keep(kept: &mut Kept, cover: u64)
-    requires { length kept.old ≡ kept_covers }
-    ensures { kept.new ≡ shifted cover cover kept.old }
-{
-    let mut carried = cover;
-    let mut j = 0;
-    while j < COVERS {
-        let c = kept[j];
-        kept[j] = carried;
-        if (c == 0) | (c == cover) {
-            return;
+    // The first kept cover whose boxes are all in the set. The covers are lent, and left unchanged.
+    pub fn recalled(&self, set: u64) -> Option<u64>
+        ensures { result ≡ recall set self.now.0 }
+    {
+        *self
+            .0
+            .iter()
+            .find(|kept| kept.is_some_and(|c| c & set == c))?
+    }
+
+    // Puts the cover before the others. If it was among them it goes from there; else the last goes, where there is no room.
+    pub fn keep(&mut self, cover: u64)
+        ensures { self.new.0 ≡ shifted cover (Some cover) self.old.0 }
+    {
+        let mut carried = Some(cover);
+        for place in self.0.iter_mut() {
+            let old = std::mem::replace(place, carried);
+            if old.is_none_or(|c| c == cover) {
+                return;
+            }
+            carried = old;
         }
-        carried = c;
-        j += 1;
     }
 }

@@ -15,38 +15,34 @@ ghost use Rattle.search.specs.Search.{search as searched};
 ghost use Rattle.search.specs.Views.{values_of};
 
 use crate::walk::{Ended, Values};
-use covers::{Boxes, Found};
+use covers::Boxes;
 use policy::limits::FIELDS;
 use policy::selector::Packet;
 use policy::table::Bounds;
 
-// The packet of these values, of a walk that begins with the first field.
-fn packet(v: Values) -> Packet
-    ensures { packet_of result ≡ values_of v }
-{
-    let source_address = v.first;
-    let destination_address = v.second;
-    let source_port = v.third;
-    let destination_port = v.fourth;
-    let protocol = v.fifth;
-    Packet {
-        source_address,
-        destination_address,
-        source_port,
-        destination_port,
-        protocol,
+// The packet of the values of a walk that begins with the first field.
+impl From<Values> for Packet {
+    ghost from_gives = { λ v p. packet_of p ≡ values_of v };
+
+    fn from(v: Values) -> Packet {
+        Packet {
+            source_address: v.first,
+            destination_address: v.second,
+            source_port: v.third,
+            destination_port: v.fourth,
+            protocol: v.fifth,
+        }
     }
 }
 
 // The least packet of the selector at `row` that no box of the cover has: what a walk finds that begins with the first field and has no limit.
-pub fn search(bounds: &Bounds, row: usize, cover: Boxes) -> Found
+pub fn search(bounds: &Bounds, row: usize, cover: Boxes) -> Option<Packet>
     requires { (row < most_selectors) × BoxNumbers cover }
     ensures { result_of result ≡ searched (selector_in bounds.now row) (boxes_at bounds.now cover 0) }
 {
-    match walk::walk(bounds, row, cover, 0, 0) {
-        Ended::Free(v) => Found::Packet(packet(v)),
-        Ended::Covered => Found::Nothing,
-        Ended::Stopped => Found::Nothing,
+    match walk::walk(bounds, row, cover, 0, None) {
+        Ended::Free(v) => Some(Packet::from(v)),
+        Ended::Covered | Ended::Stopped => None,
     }
 }
 
@@ -64,7 +60,7 @@ pub fn hidden(bounds: &Bounds, row: usize, cover: Boxes) -> bool
     let mut lead = 0;
     let mut limit = FIRST_LIMIT;
     while limit < LAST_LIMIT {
-        match walk::walk(bounds, row, cover, lead, limit) {
+        match walk::walk(bounds, row, cover, lead, Some(limit)) {
             Ended::Free(_) => return false,
             Ended::Covered => return true,
             Ended::Stopped => {}
@@ -72,8 +68,5 @@ pub fn hidden(bounds: &Bounds, row: usize, cover: Boxes) -> bool
         lead = (lead + 1) % FIELDS;
         limit += limit / 4;
     }
-    match search(bounds, row, cover) {
-        Found::Packet(_) => false,
-        Found::Nothing => true,
-    }
+    search(bounds, row, cover).is_none()
 }

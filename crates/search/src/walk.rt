@@ -1,6 +1,7 @@
 // A walk through the fields, from any of them on and round to those before it: candidates field by field, and covers of those that came to nothing. The
 // bounds of all selectors are lent, and left unchanged.
-ghost use Rattle.std.specs.Prelude.{◌≡◌, map, ◌-◌, ◌<◌};
+ghost use Rattle.std.specs.Prelude.{◌≡◌, map, ◌<◌};
+ghost use Rattle.std.specs.Option.{unwrap_or};
 ghost use Rattle.policy.specs.Limits.{field_count, most_selectors};
 ghost use Rattle.policy.specs.Views.{value, selector_in};
 ghost use Rattle.covers.specs.Views.{boxes_at, BoxNumbers, next_of};
@@ -8,9 +9,10 @@ ghost use Rattle.search.specs.Search.{search as searched};
 ghost use Rattle.search.specs.Covers.{opening as opening_of};
 ghost use Rattle.search.specs.Turns.{turned, Tells};
 
-use crate::kept::COVERS;
-use crate::{kept, reach};
-use covers::{Boxes, Next, set};
+use crate::kept::Kept;
+use crate::reach;
+use covers::set::Field;
+use covers::{Boxes, set};
 use policy::limits::FIELDS;
 use policy::number::Number;
 use policy::table;
@@ -34,30 +36,22 @@ pub enum Ended {
     Stopped,
 }
 
-// The first candidate of a field: none where a cover is known.
-fn opening(cover: u64, low: Number) -> Next
-    ensures { next_of result ≡ opening_of cover (value low) }
+// What a field begins with: a cover that is known, and no candidate; or no boxes, and the row's low.
+fn opening(known: Option<u64>, low: Number) -> (u64, Option<Number>)
+    ensures cover { result.0 ≡ unwrap_or known 0 }
+    ensures first { next_of result.1 ≡ opening_of known (value low) }
 {
-    if cover == 0 {
-        return Next::Value(low);
+    match known {
+        Some(cover) => (cover, None),
+        None => (0, Some(low)),
     }
-    Next::End
 }
 
-// One less, or 0 of 0.
-fn fewer(n: u64) -> u64
-    ensures { result ≡ n - 1 }
-{
-    if n == 0 {
-        return 0;
-    }
-    n - 1
-}
-
+// As it is: nested candidate loops over the fields, left by a label, the form that document 01 names.
 // Walks through the selector at `row`, from its field `lead` on: candidates field by field, left by the label when the first packet is met that no box of
-// the cover has. Of each field, a is the boxes that hold the packet so far, and k the cover of the values that came to nothing, which is kept for the
-// packets to come. Stops at `limit` values of the fourth field, if that is not 0.
-pub fn walk(bounds: &Bounds, row: usize, cover: Boxes, lead: usize, limit: u64) -> Ended
+// the cover has. Of each field, r is the row's range and b the boxes; a is the boxes that hold the packet so far, n the next candidate, and k the cover of
+// the values that came to nothing, which is kept for the packets to come. Stops at `limit` values of the fourth field, if there is a limit.
+pub fn walk(bounds: &Bounds, row: usize, cover: Boxes, lead: usize, limit: Option<u64>) -> Ended
     requires { (row < most_selectors) × BoxNumbers cover × (lead < field_count) }
     ensures { Tells limit (searched (turned lead (selector_in bounds.now row)) (map (turned lead) (boxes_at bounds.now cover 0))) result }
 {
@@ -70,52 +64,46 @@ pub fn walk(bounds: &Bounds, row: usize, cover: Boxes, lead: usize, limit: u64) 
     let r2 = table::range_at(bounds, row, f2);
     let r3 = table::range_at(bounds, row, f3);
     let r4 = table::range_at(bounds, row, f4);
+    let at = &cover.at;
+    let b0 = Field {
+        bounds,
+        at,
+        f: lead,
+    };
+    let b1 = Field { bounds, at, f: f1 };
+    let b2 = Field { bounds, at, f: f2 };
+    let b3 = Field { bounds, at, f: f3 };
+    let b4 = Field { bounds, at, f: f4 };
     let mut left = limit;
-    let at = cover.at;
     let a0 = set::first(cover.count);
-    let mut kept1 = [0u64; COVERS];
-    let mut kept2 = [0u64; COVERS];
-    let mut kept3 = [0u64; COVERS];
-    let mut kept4 = [0u64; COVERS];
-    let mut n0 = opening(0, r0.low);
+    let mut kept1 = Kept::new();
+    let mut kept2 = Kept::new();
+    let mut kept3 = Kept::new();
+    let mut kept4 = Kept::new();
+    let mut n0 = Some(r0.low);
     'search: loop {
-        let Next::Value(v0) = n0 else {
+        let Some(v0) = n0 else {
             break 'search Ended::Covered;
         };
-        let a1 = set::holding(bounds, &at, lead, v0, a0);
-        let mut k1 = kept::recalled(&kept1, a1);
-        let mut n1 = opening(k1, r1.low);
-        loop {
-            let Next::Value(v1) = n1 else {
-                break;
-            };
-            let a2 = set::holding(bounds, &at, f1, v1, a1);
-            let mut k2 = kept::recalled(&kept2, a2);
-            let mut n2 = opening(k2, r2.low);
-            loop {
-                let Next::Value(v2) = n2 else {
-                    break;
-                };
-                let a3 = set::holding(bounds, &at, f2, v2, a2);
-                let mut k3 = kept::recalled(&kept3, a3);
-                let mut n3 = opening(k3, r3.low);
-                loop {
-                    let Next::Value(v3) = n3 else {
-                        break;
-                    };
-                    if left == 1 {
-                        break 'search Ended::Stopped;
+        let a1 = b0.holding(v0, a0);
+        let (mut k1, mut n1) = opening(kept1.recalled(a1), r1.low);
+        while let Some(v1) = n1 {
+            let a2 = b1.holding(v1, a1);
+            let (mut k2, mut n2) = opening(kept2.recalled(a2), r2.low);
+            while let Some(v2) = n2 {
+                let a3 = b2.holding(v2, a2);
+                let (mut k3, mut n3) = opening(kept3.recalled(a3), r3.low);
+                while let Some(v3) = n3 {
+                    if let Some(n) = left {
+                        if n <= 1 {
+                            break 'search Ended::Stopped;
+                        }
+                        left = Some(n - 1);
                     }
-                    left = fewer(left);
-                    let a4 = set::holding(bounds, &at, f3, v3, a3);
-                    let mut k4 = kept::recalled(&kept4, a4);
-                    let mut n4 = opening(k4, r4.low);
-                    loop {
-                        let Next::Value(v4) = n4 else {
-                            break;
-                        };
-                        let k5 = reach::furthest(bounds, &at, f4, v4, a4);
-                        if k5 == 0 {
+                    let a4 = b3.holding(v3, a3);
+                    let (mut k4, mut n4) = opening(kept4.recalled(a4), r4.low);
+                    while let Some(v4) = n4 {
+                        let Some(k5) = reach::furthest(b4, v4, a4) else {
                             break 'search Ended::Free(Values {
                                 first: v0,
                                 second: v1,
@@ -123,23 +111,23 @@ pub fn walk(bounds: &Bounds, row: usize, cover: Boxes, lead: usize, limit: u64) 
                                 fourth: v3,
                                 fifth: v4,
                             });
-                        }
-                        k4 = k4 | k5;
-                        n4 = reach::following(bounds, &at, f4, k5, r4.high);
+                        };
+                        k4 |= k5;
+                        n4 = reach::following(b4, k5, r4.high);
                     }
-                    kept::keep(&mut kept4, k4);
-                    k3 = k3 | k4;
-                    n3 = reach::following(bounds, &at, f3, k4, r3.high);
+                    kept4.keep(k4);
+                    k3 |= k4;
+                    n3 = reach::following(b3, k4, r3.high);
                 }
-                kept::keep(&mut kept3, k3);
-                k2 = k2 | k3;
-                n2 = reach::following(bounds, &at, f2, k3, r2.high);
+                kept3.keep(k3);
+                k2 |= k3;
+                n2 = reach::following(b2, k3, r2.high);
             }
-            kept::keep(&mut kept2, k2);
-            k1 = k1 | k2;
-            n1 = reach::following(bounds, &at, f1, k2, r1.high);
+            kept2.keep(k2);
+            k1 |= k2;
+            n1 = reach::following(b1, k2, r1.high);
         }
-        kept::keep(&mut kept1, k1);
-        n0 = reach::following(bounds, &at, lead, k1, r0.high);
+        kept1.keep(k1);
+        n0 = reach::following(b0, k1, r0.high);
     }
 }

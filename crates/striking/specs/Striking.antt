@@ -1,11 +1,9 @@
 -- Document 01, "Strike", of a table: the kept rows, the table that has only them, and demand 3 on it, over all groups and probes.
 -- Assumes nothing.
-use Rattle.std.specs.Prelude.{ℕ, ◌<◌, ◌≡◌, not, List, map, length, get_or}
+use Rattle.std.specs.Prelude.{ℕ, ◌<◌, ◌≡◌, not, List, map, length, get_or, Option, Some, None}
 use Rattle.policy.specs.Model.{Packet, Row, Table, with_rows, row_at, parent_of}
 use Rattle.policy.specs.Wellformed.{IsEntity, Wellformed}
 use Rattle.relations.specs.Groups.{Dead, winner_from}
-use Rattle.relations.specs.declared.group.Outcome.{Outcome}
-use Rattle.relations.specs.declared.group.Outcome.TheVariants.{Won, Nobody}
 use Rattle.verdicts.specs.Verdicts.{dead}
 use Rattle.base.specs.Lists.{numbers_from}
 
@@ -19,11 +17,11 @@ struck t = with_rows (map (row_at t) (kept t)) t
 
 -- "Row k of the struck text is compared as the k-th kept row of the old text, both from 0": the winner of the old table, of whose rows
 -- ks are kept, and the winner of the struck one.
-abbrev pub SameWinner : List ℕ → Outcome → Outcome → Type 0
-SameWinner ks (Won i) (Won k) = (k < length ks) × (get_or ks k 0 ≡ i)
-SameWinner ks (Won i) Nobody = ⊥
-SameWinner ks Nobody (Won k) = ⊥
-SameWinner ks Nobody Nobody = Unit {0}
+abbrev pub SameWinner : List ℕ → Option ℕ → Option ℕ → Type 0
+SameWinner ks (Some i) (Some k) = (k < length ks) × (get_or ks k 0 ≡ i)
+SameWinner ks (Some i) None = ⊥
+SameWinner ks None (Some k) = ⊥
+SameWinner ks None None = Unit {0}
 
 pub record Struck (t : Table) : Type 0 where
   -- "The text that Strike writes is accepted,"

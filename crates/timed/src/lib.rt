@@ -8,7 +8,6 @@ ghost use Rattle.mesh_call.specs.Calls.{mesh_of};
 ghost use Rattle.analyser.specs.Calls.{check_of, witness_of, packed, strike_of, strike_written, join_of, join_written, prefixes_of, prefixes_written};
 ghost use Rattle.timed.specs.Codes.{check_code, witness_code};
 
-use analyser::Checked;
 use calls::Witness;
 
 // 0 if the text is accepted, else 1.
@@ -17,12 +16,8 @@ pub extern "C" fn timed_check(text: &[u8]) -> u64
     ensures { result ≡ check_code (check_of (parse text.now)) }
 {
     match analyser::check(text) {
-        Checked::Counts {
-            entities: _,
-            filters: _,
-            rows: _,
-        } => 0,
-        Checked::Refused { number: _, line: _ } => 1,
+        Ok(_) => 0,
+        Err(_) => 1,
     }
 }
 

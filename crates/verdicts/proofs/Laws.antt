@@ -2,3 +2,4 @@
 pub mod Verdicts
 pub mod Tables
 pub mod Extended
+pub mod Lent

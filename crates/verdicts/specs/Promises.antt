@@ -1,9 +1,8 @@
 -- Demand 3 on dead rows and witnesses, of a row of a table, over all probes; and document 02, [6], on rows added at the end.
 -- Assumes nothing.
-use Rattle.std.specs.Prelude.{ℕ, ◌<◌, ◌≡◌, ◌↔◌, List, length}
+use Rattle.std.specs.Prelude.{ℕ, ◌<◌, ◌≡◌, ◌↔◌, List, length, Some}
 use Rattle.policy.specs.Model.{Packet, Row, Table, extended, row_at, parent_of}
 use Rattle.relations.specs.Groups.{Wins, Dead, winner_from}
-use Rattle.relations.specs.declared.group.Outcome.TheVariants.{Won}
 use Rattle.covers.specs.Least.{found, none, ◌≤ₚ◌}
 use Rattle.verdicts.specs.Verdicts.{verdict_on}
 
@@ -25,5 +24,5 @@ pub record OldRowsKeep (t : Table) (added : List Row) : Type 0 where
   -- or its witness,
   pub verdict : (i : ℕ) → i < length t.rows → verdict_on (extended added t) i ≡ verdict_on t i
   -- and a probe that had a winner keeps that winner", in whichever group, as the row g names it.
-  pub winner : (g : Row) (a b : ℕ) (p : Packet) (i : ℕ) → winner_from (parent_of t) g a b p 0 t.rows ≡ Won i
-      → winner_from (parent_of (extended added t)) g a b p 0 (extended added t).rows ≡ Won i
+  pub winner : (g : Row) (a b : ℕ) (p : Packet) (i : ℕ) → winner_from (parent_of t) g a b p 0 t.rows ≡ Some i
+      → winner_from (parent_of (extended added t)) g a b p 0 (extended added t).rows ≡ Some i

@@ -9,21 +9,22 @@ use native.Mathlib.Decide.{dec_lt}
 use native.Mathlib.Omega.{arith}
 use lib.ListN.{length, get_or}
 use borrow.Author.Tests.{lt-ltb, le-ltb, ltb-true}
+use Rattle.std.specs.Prelude.{Option, Some, None, Err}
 use Rattle.base.specs.Checks.{Check}
 use Rattle.base.specs.Answers.{Answer, returned, refused_by, given}
 use Rattle.base.proofs.Laws.Answers.{Broken, given_kept, given_broken, kept_or_broken}
 use Rattle.policy.specs.Model.{Packet, Table, row_at, lines_before}
 use Rattle.policy.specs.Wellformed.{IsEntity}
 use Rattle.relations.specs.Groups.{winner}
-use Rattle.relations.specs.declared.group.Outcome.{Outcome}
-use Rattle.relations.specs.declared.group.Outcome.TheVariants.{Won, Nobody}
 use Rattle.frames.specs.Refusals.{no_such_row, no_such_entity}
+use Rattle.frames.specs.declared.refusals.Refusal.{Refusal}
 use Rattle.reader.specs.Lines.{lines_of}
 use Rattle.reader.specs.States.{Parsed, table_read, parse}
 use Rattle.reader.proofs.Laws.Rows.{RowLine, accepted_lines, accepted_row}
 use Rattle.verdicts.specs.Verdicts.{verdict_on}
-use Rattle.calls.specs.Rows.{has_row, on_row}
-use Rattle.calls.proofs.Laws.Texts.{row_answered}
+use Rattle.reader.specs.Views.{Parses}
+use Rattle.calls.specs.Rows.{has_row, on_row, with_row}
+use Rattle.calls.proofs.Laws.Texts.{row_answered, row_refused}
 use Rattle.analyser.specs.Calls.{has_entity, line_part, witness_of, RowOrNobody, winning_row, nobody_wins, outcome_of, winner_of}
 
 -- ---- Line
@@ -45,6 +46,12 @@ module _ (text : List ℕ) (t : Table) (e : parse text ≡ returned (table_read 
 pub witness_on_row : (x : Answer Parsed) (k : ℕ) → witness_of x k ≡ on_row verdict_on x k
 unfolding witness_of
 witness_on_row x k = refl
+
+-- A text's refusal, or that of the row, is the call's.
+pub winner_away : (x : Answer Parsed) (k a b : ℕ) (p : Packet) {r : Refusal} → Parses (Err r) (with_row x k) → winner_of x k a b p ≡ refused_by r.number r.line
+unfolding winner_of
+winner_away x k a b p w =
+    row_refused k (λ q. has_entity a q.table ∷ has_entity b q.table ∷ []) (λ q. outcome_of (winner q.table k a b p)) x w
 
 module _ (x : Answer Parsed) (t : Table) (e : x ≡ returned (table_read t)) (k : ℕ) where
   pub witness_verdict : k < length t.rows → witness_of x k ≡ returned (verdict_on t k)
@@ -91,16 +98,16 @@ module _ (x : Answer Parsed) (t : Table) (e : x ≡ returned (table_read t)) (k 
 
       -- Winner's answer says who won.
       module _ (l : IsEntity t a) (m : IsEntity t b) where
-        pub winner_row : (i : ℕ) → (winner_of x k a b p ≡ returned (winning_row i)) ↔ (winner t k a b p ≡ Won i)
+        pub winner_row : (i : ℕ) → (winner_of x k a b p ≡ returned (winning_row i)) ↔ (winner t k a b p ≡ Some i)
         winner_row i = let f = winner_found l m in (λ w. won (winner t k a b p) (cc), λ o. f ∙ ap (λ q. returned (outcome_of q)) o)
           where
-            won : (o : Outcome) → outcome_of o ≡ winning_row i → o ≡ Won i
-            won (Won j) q = cc
-            won Nobody q = let z : ◌≡◌ {A = ℕ} 0 1 = cc in absurd (omega arith)
+            won : (o : Option ℕ) → outcome_of o ≡ winning_row i → o ≡ Some i
+            won (Some j) q = cc
+            won None q = let z : ◌≡◌ {A = ℕ} 0 1 = cc in absurd (omega arith)
 
-        pub winner_none : (winner_of x k a b p ≡ returned nobody_wins) ↔ (winner t k a b p ≡ Nobody)
+        pub winner_none : (winner_of x k a b p ≡ returned nobody_wins) ↔ (winner t k a b p ≡ None)
         winner_none = let f = winner_found l m in (λ w. lost (winner t k a b p) (cc), λ o. f ∙ ap (λ q. returned (outcome_of q)) o)
           where
-            lost : (o : Outcome) → outcome_of o ≡ nobody_wins → o ≡ Nobody
-            lost (Won j) q = let z : ◌≡◌ {A = ℕ} 0 1 = cc in absurd (omega arith)
-            lost Nobody q = refl
+            lost : (o : Option ℕ) → outcome_of o ≡ nobody_wins → o ≡ None
+            lost (Some j) q = let z : ◌≡◌ {A = ℕ} 0 1 = cc in absurd (omega arith)
+            lost None q = refl

@@ -10,20 +10,32 @@ use mathlib.Core.List.{List, [], ◌∷◌, ◌++◌}
 use lib.ListN.{length, drop}
 use Rattle.base.specs.Outputs.{Writes}
 use Rattle.base.specs.Answers.{Answer, returned, refused_by, told, given, wrote}
-use Rattle.base.specs.declared.Written.{Written}
+use Rattle.base.specs.declared.Short.{Short}
+use Rattle.std.specs.Prelude.{Result, Err}
+use Rattle.frames.specs.declared.refusals.Refusal.{Refusal}
+use Rattle.reader.specs.Views.{Parses}
+use Rattle.calls.specs.Rows.{has_row, with_row}
+use Rattle.calls.proofs.Laws.Texts.{row_refused}
 use Rattle.base.proofs.Laws.Answers.{Kept}
 use Rattle.base.proofs.Laws.Decides.{decides_holds, decides_fails}
 use Rattle.policy.specs.Model.{Table, row_at, parent_of}
 use Rattle.joining.specs.Joining.{Joinable}
 use Rattle.joining.proofs.Laws.Joining.{joinable_decides}
 use Rattle.reader.specs.States.{Parsed, table_read}
-use Rattle.analyser.specs.Calls.{has_room, joined_line, join_conditions, join_of, join_written}
+use Rattle.analyser.specs.Calls.{has_room, can_join, joined_line, join_conditions, join_of, join_written}
 use Rattle.analyser.specs.Views.{room_answer}
 use Rattle.analyser.proofs.Laws.Outputs.{call_broken, call_asked, call_writes, call_short, call_whole}
 
 -- What the call answers, and what it leaves in the output.
 abbrev pub Does : Answer Parsed → (i j : ℕ) → List ℕ → Answer ℕ → List ℕ → Type 0
 Does x i j out answer after = (join_of x i j out ≡ answer) × (join_written x i j out ≡ after)
+
+-- A text's refusal, or that of the first row, is the call's.
+pub join_away : (x : Answer Parsed) (i j : ℕ) (out : List ℕ) {r : Refusal} → Parses (Err r) (with_row x i) → Does x i j out (refused_by r.number r.line) out
+unfolding join_of join_written
+join_away x i j out p =
+    let a = row_refused i (λ q. has_row j q.table ∷ can_join i j q.table ∷ has_room (joined_line i j q.table) out ∷ []) (λ q. joined_line i j q.table) x p in
+    (ap (told length) a, ap (λ y. wrote (λ l. l) y out) a)
 
 module _ (x : Answer Parsed) (t : Table) (e : x ≡ returned (table_read t)) (i j : ℕ) (out : List ℕ) where
   pub join_no_row : ((i < length t.rows) × (j < length t.rows) → ⊥) → Does x i j out (refused_by 9 0) out
@@ -66,7 +78,7 @@ module _ (x : Answer Parsed) (t : Table) (e : x ≡ returned (table_read t)) (i 
       join_whole l = call_whole (join_conditions i j) (λ l. l) length (joined_line i j) out x t e join_kept l
 
       -- The line is written where there is room.
-      pub join_writes : (after : List ℕ) (r : Written) → Writes (joined_line i j t) out after r
+      pub join_writes : (after : List ℕ) (r : Result ℕ Short) → Writes (joined_line i j t) out after r
           → (room_answer r ≡ join_of x i j out) × (after ≡ join_written x i j out)
       unfolding join_of join_written
       join_writes after r w = call_writes (join_conditions i j) (λ l. l) length (joined_line i j) out x t e join_kept after r w

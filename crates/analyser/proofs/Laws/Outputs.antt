@@ -17,9 +17,9 @@ use mathlib.Core.List.{List, [], ◌∷◌, ◌++◌}
 use lib.ListN.{length, drop}
 use borrow.Author.Tests.{leb-true, leb-false}
 use Rattle.base.specs.Truths.{pick}
-use Rattle.base.specs.Outputs.{fits, written, WritesCounted}
-use Rattle.base.specs.declared.Written.{Written}
-use Rattle.base.specs.declared.Written.TheVariants.{Count as Whole, Short}
+use Rattle.std.specs.Prelude.{Result, Ok, Err}
+use Rattle.base.specs.Outputs.{fits, written, short, WritesCounted}
+use Rattle.base.specs.declared.Short.{Short}
 use Rattle.base.specs.Checks.{Check}
 use Rattle.base.specs.Answers.{Answer, returned, refused_by, told, wrote, given}
 use Rattle.base.proofs.Laws.Outputs.{fits_not, fits_all}
@@ -33,8 +33,7 @@ use Rattle.listing.proofs.Laws.Puts.{length_bytes}
 use Rattle.striking.specs.Texts.{struck_text}
 use Rattle.analyser.specs.Calls.{has_room, writing, no_conditions, list_of, list_written, strike_of, strike_written}
 use Rattle.analyser.specs.Views.{count_answer, room_answer}
-use Rattle.analyser.specs.declared.Counted.{Counted}
-use Rattle.analyser.specs.declared.Counted.TheVariants.{Count}
+use Rattle.frames.specs.declared.refusals.Refusal.{Refusal}
 
 -- ---- the condition
 
@@ -78,10 +77,10 @@ module _ {A : Type 0} (conditions : Table → List Check) (result : A → List �
       output_accepted = ap (λ y. wrote result y out) call_asked ∙ wrote_room (value t) short_output result out
 
       -- Where the result is written if it fits.
-      pub call_writes : (after : List ℕ) (r : Written) → WritesCounted (tell (value t)) (result (value t)) out after r → (room_answer r ≡ answer_to x) × (after ≡ output_after x)
+      pub call_writes : (after : List ℕ) (r : Result ℕ Short) → WritesCounted (tell (value t)) (result (value t)) out after r → (room_answer r ≡ answer_to x) × (after ≡ output_after x)
       call_writes after r w = (ap room_answer w.answer ∙ picked (fits (result (value t)) out) ∙ sym answer_accepted, w.output ∙ sym output_accepted)
         where
-          picked : (b : Bool) → room_answer (pick b (Whole (tell (value t))) Short) ≡ pick b (returned (tell (value t))) (refused_by short_output 0)
+          picked : (b : Bool) → room_answer (pick b (Ok (tell (value t))) (Err short)) ≡ pick b (returned (tell (value t))) (refused_by short_output 0)
           picked true = refl
           picked false = refl
 
@@ -112,7 +111,7 @@ module _ (x : Answer Parsed) (out : List ℕ) where
     unfolding list_of list_written
     list_whole h = call_whole no_conditions bytes length entries out x t e tt h
 
-    pub list_writes : (after : List ℕ) (r : Written) → WritesCounted (length (entries t)) (bytes (entries t)) out after r
+    pub list_writes : (after : List ℕ) (r : Result ℕ Short) → WritesCounted (length (entries t)) (bytes (entries t)) out after r
         → (room_answer r ≡ list_of x out) × (after ≡ list_written x out)
     unfolding list_of list_written
     list_writes after r w = call_writes no_conditions bytes length entries out x t e tt after r w
@@ -131,7 +130,7 @@ module _ (x : Answer Parsed) (out : List ℕ) where
   list_wrote w = (call_whole no_conditions bytes length entries out x w.of.table w.read tt (room (bytes (entries_read w.of)) out w.keeps)).1
 
   -- As many entries as are counted have room.
-  pub count_fits : (r : Counted) (n : ℕ) → count_answer r ≡ list_of x out → r ≡ Count n → entry_bytes * n ≤ length out
+  pub count_fits : (r : Result ℕ Refusal) (n : ℕ) → count_answer r ≡ list_of x out → r ≡ Ok n → entry_bytes * n ≤ length out
   count_fits r n a e =
       let w = list_told n (sym a ∙ ap count_answer e) in
       omega (arith, w.tells, room (bytes (entries_read w.of)) out w.keeps, length_bytes (entries_read w.of))
@@ -157,7 +156,7 @@ module _ (text : List ℕ) (x : Answer Parsed) (out : List ℕ) where
     unfolding strike_of strike_written
     strike_whole h = call_whole no_conditions (λ l. l) length (struck_text text) out x t e tt h
 
-    pub strike_writes : (after : List ℕ) (r : Written) → WritesCounted (length (struck_text text t)) (struck_text text t) out after r
+    pub strike_writes : (after : List ℕ) (r : Result ℕ Short) → WritesCounted (length (struck_text text t)) (struck_text text t) out after r
         → (room_answer r ≡ strike_of text x out) × (after ≡ strike_written text x out)
     unfolding strike_of strike_written
     strike_writes after r w = call_writes no_conditions (λ l. l) length (struck_text text) out x t e tt after r w

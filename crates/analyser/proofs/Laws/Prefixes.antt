@@ -4,20 +4,25 @@
 use Prim.Native.Nat.{ℕ, zero, suc, ◌^◌, ◌≤◌, ◌<◌}
 use native.Mathlib.Omega.{arith}
 use borrow.Author.Tests.{lt-ltb, le-ltb, le-leb, lt-leb}
-use mathlib.Core.Path.{◌≡◌, refl}
+use mathlib.Core.Path.{◌≡◌, refl, ap}
 use mathlib.Core.Logic.{inl, inr}
 use mathlib.Core.List.{List, [], ◌∷◌, ◌++◌}
 use lib.ListN.{length, drop}
 use Rattle.base.specs.Outputs.{WritesCounted}
-use Rattle.base.specs.Answers.{Answer, returned, refused_by}
-use Rattle.base.specs.declared.Written.{Written}
+use Rattle.base.specs.Answers.{Answer, returned, refused_by, told, wrote}
+use Rattle.base.specs.declared.Short.{Short}
+use Rattle.std.specs.Prelude.{Result, Err}
 use Rattle.base.proofs.Laws.Answers.{Kept}
 use Rattle.policy.specs.Model.{Selector, Table}
 use Rattle.policy.specs.Wellformed.{SelectorRule}
 use Rattle.prefixes.specs.Bytes.{address_bytes, prefix_bytes}
 use Rattle.prefixes.specs.Sides.{side_of}
+use Rattle.frames.specs.declared.refusals.Refusal.{Refusal}
 use Rattle.reader.specs.States.{Parsed, table_read}
-use Rattle.analyser.specs.Calls.{row_prefixes, prefix_conditions, prefixes_of, prefixes_written}
+use Rattle.reader.specs.Views.{Parses}
+use Rattle.calls.specs.Rows.{with_row}
+use Rattle.calls.proofs.Laws.Texts.{row_refused}
+use Rattle.analyser.specs.Calls.{has_room, has_side, row_prefixes, prefix_conditions, prefixes_of, prefixes_written}
 use Rattle.analyser.specs.Views.{room_answer}
 use Rattle.analyser.proofs.Laws.Outputs.{call_broken, call_writes, call_short, call_whole}
 
@@ -32,6 +37,16 @@ side_fits (a ∷ b ∷ s) (suc (suc side)) h r = absurd (omega arith)
 -- What the call answers, and what it leaves in the output.
 abbrev pub Does : Answer Parsed → (k side : ℕ) → List ℕ → Answer ℕ → List ℕ → Type 0
 Does x k side out answer after = (prefixes_of x k side out ≡ answer) × (prefixes_written x k side out ≡ after)
+
+-- A text's refusal, or that of the row, is the call's.
+pub prefixes_away : (x : Answer Parsed) (k side : ℕ) (out : List ℕ) {r : Refusal} → Parses (Err r) (with_row x k)
+    → Does x k side out (refused_by r.number r.line) out
+unfolding prefixes_of prefixes_written
+prefixes_away x k side out p =
+    let a =
+    row_refused k (λ q. has_side side ∷ has_room (prefix_bytes address_bytes (row_prefixes k side q.table)) out ∷ []) (λ q. row_prefixes k side q.table)
+    x p in
+    (ap (told length) a, ap (λ y. wrote (prefix_bytes address_bytes) y out) a)
 
 module _ (x : Answer Parsed) (t : Table) (e : x ≡ returned (table_read t)) (k side : ℕ) (out : List ℕ) where
   pub prefixes_no_row : length t.rows ≤ k → Does x k side out (refused_by 9 0) out
@@ -62,7 +77,7 @@ module _ (x : Answer Parsed) (t : Table) (e : x ≡ returned (table_read t)) (k 
       prefixes_whole l = call_whole (prefix_conditions k side) (prefix_bytes address_bytes) length (row_prefixes k side) out x t e prefixes_kept l
 
       -- The prefixes are written where there is room.
-      pub prefixes_writes : (after : List ℕ) (r : Written)
+      pub prefixes_writes : (after : List ℕ) (r : Result ℕ Short)
           → WritesCounted (length (row_prefixes k side t)) (prefix_bytes address_bytes (row_prefixes k side t)) out after r
           → (room_answer r ≡ prefixes_of x k side out) × (after ≡ prefixes_written x k side out)
       unfolding prefixes_of prefixes_written

@@ -8,8 +8,8 @@ use native.Mathlib.Omega.{arith}
 use borrow.Author.Tests.{le-leb, lt-leb}
 use lib.ListN.{length, drop, take}
 use lib.Seq.{sets, sets-eq, take-length}
-use Rattle.base.specs.Outputs.{fits, written, WritesCounted}
-use Rattle.base.specs.declared.Written.TheVariants.{Count, Short}
+use Rattle.std.specs.Prelude.{Ok, Err}
+use Rattle.base.specs.Outputs.{fits, written, short, WritesCounted}
 
 module _ (result out : List ℕ) where
   -- ---- too short
@@ -20,7 +20,7 @@ module _ (result out : List ℕ) where
   pub written_not : length out < length result → out ≡ written result out
   written_not h = rw (fits_not h)
 
-  pub writes_not : {n : ℕ} → length out < length result → WritesCounted n result out out Short
+  pub writes_not : {n : ℕ} → length out < length result → WritesCounted n result out out (Err short)
   writes_not h = record { output = written_not h; answer = rw (fits_not h) refl }
 
   -- ---- room for the result
@@ -44,5 +44,5 @@ module _ (result out : List ℕ) where
         ∙ ap (λ (l : List ℕ). l ++ drop (length result) out) (take-length result)
         ∙ written_all
 
-    pub writes_stored : {after : List ℕ} {m : ℕ} (n : ℕ) → n ≡ m → after ≡ sets out 0 result → WritesCounted m result out after (Count n)
-    writes_stored n e f = record { output = f ∙ written_stored; answer = rw fits_all (ap Count e) }
+    pub writes_stored : {after : List ℕ} {m : ℕ} (n : ℕ) → n ≡ m → after ≡ sets out 0 result → WritesCounted m result out after (Ok n)
+    writes_stored n e f = record { output = f ∙ written_stored; answer = rw fits_all (ap Ok e) }

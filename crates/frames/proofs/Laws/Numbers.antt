@@ -1,24 +1,17 @@
 -- Laws of the numbers of entities and of roots:
---   first_counted: how many entities there are so far
 --   own: a parent or a layer among those of all entities is the entity's
 --   is_entity_decides, is_root_decides: the tests of numbers
 -- Assumes nothing.
 use Prim.Native.Nat.{ℕ, ◌<◌}
 use mathlib.Core.Path.{◌≡◌, sym, ◌∙◌}
 use mathlib.Core.List.{List, map}
-use native.Mathlib.Omega.{arith}
-use lib.ListN.{length, get_or, take, length-map, get_or-map}
-use lib.Seq.{length-take-le}
+use lib.ListN.{length, get_or, length-map, get_or-map}
 use Rattle.base.specs.Truths.{Decides}
 use Rattle.base.proofs.Laws.Decides.{decides_as, decides_ltb, decides_eqb, decides_and}
 use Rattle.base.proofs.Laws.Lists.{get_d_default}
 use Rattle.policy.specs.Model.{Entity, Table, no_parent, no_entity, parents_of}
 use Rattle.policy.specs.Wellformed.{IsEntity, IsRoot}
-use Rattle.frames.specs.Numbers.{is_entity, is_root, Lent}
-
--- The first n of the numbers, one for each entity, are n.
-pub first_counted : (n : ℕ) (l : List ℕ) → Lent l n → length (take n l) ≡ n
-first_counted n l h = length-take-le n l (omega arith)
+use Rattle.frames.specs.Numbers.{is_entity, is_root}
 
 pub own : (f : Entity → ℕ) (es : List Entity) (e : ℕ) → e < length es → get_or (map f es) e 0 ≡ f (get_or es e no_entity)
 own f es e h = get_d_default (map f es) e 0 (f no_entity) (rw length-map h) ∙ get_or-map f es e no_entity

@@ -13,7 +13,7 @@ use native.Mathlib.Omega.{arith}
 use borrow.Author.Tests.{eqb-true}
 use lib.Dec.{eqb}
 use lib.ListN.{length, get_or, take, drop, length-take, length-drop, length-append}
-use lib.Seq.{take-nil, drop-drop, drop-append_seam, take-append_seam}
+use lib.Seq.{take-add, drop-drop, drop-append_seam, take-append_seam}
 use Rattle.hexlines.specs.Lines.{bytes_of}
 use Rattle.hexlines.proofs.Laws.Lines.{bytes_of_below, length_bytes_of}
 use Rattle.hexlines.proofs.Laws.Numbers.{line_field_below}
@@ -44,12 +44,6 @@ selector_fits at (w ∷ ws) l = (line_field_below l (at + w) w, selector_fits (a
 
 -- ---- what it is to say a box
 
--- The first m + n of a list, in two parts.
-take_parts : (m n : ℕ) (l : List ℕ) → take (m + n) l ≡ take m l ++ take n (drop m l)
-take_parts zero n l = let e : 0 + n ≡ n = omega arith in rw e
-take_parts (suc m) n [] = rw (take-nil n, take-nil (suc m + n))
-take_parts (suc m) n (x ∷ l) = let e : suc m + n ≡ suc (m + n) = omega arith in rw e (ap (λ r. x ∷ r) (take_parts m n l))
-
 pub box_said_lem : (at : ℕ) (ws bs : List ℕ) → at + box_bytes ws ≤ length bs → SaysBox ws (take (box_bytes ws) (drop at bs)) (selector_from at ws bs)
 unfolding range_from
 box_said_lem at [] bs h = refl
@@ -58,10 +52,10 @@ box_said_lem at (w ∷ ws) bs h = (
   take w (drop (at + w) bs),
   take (box_bytes ws) (drop (at + 2 * w) bs),
   ap (λ n. take n (drop at bs)) two
-      ∙ take_parts w (w + box_bytes ws) (drop at bs)
+      ∙ take-add w (w + box_bytes ws) (drop at bs)
       ∙ ap (λ l. take w (drop at bs) ++ l)
       (ap (take (w + box_bytes ws)) (drop-drop w at bs)
-      ∙ take_parts w (box_bytes ws) (drop (at + w) bs)
+      ∙ take-add w (box_bytes ws) (drop (at + w) bs)
       ∙ ap (λ l. take w (drop (at + w) bs) ++ take (box_bytes ws) l) (drop-drop w (at + w) bs ∙ ap (λ n. drop n bs) next)),
   (simp (length-take, length-drop) (omega arith), refl),
   (simp (length-take, length-drop) (omega arith), refl),

@@ -1,6 +1,7 @@
 -- Laws of digits that are read:
 --   decimal_value, capital_value, small_value, other_value: the value of 0-9, of A-F, of a-f, and of every other character
 --   digit_decides: the test of digits is true exactly of these three ranges
+--   value_or_zero: what a half of a pair has
 --   bytes_of_pair: the byte of two digits
 -- and of digits that are written:
 --   digit_value_digit_of, is_digit_digit_of, digit_of_capital: of a value below 16
@@ -10,7 +11,7 @@
 -- That each byte of bs is below 256 is said as (i : ℕ) → get_or bs i 0 < 256.
 -- Assumes nothing.
 use mathlib.Core.Path.{◌≡◌, refl}
-use mathlib.Core.Bool.{true, ◌&&◌}
+use mathlib.Core.Bool.{Bool, true, false, ◌&&◌}
 use mathlib.Core.Logic.{◌⊎◌, inl, inr}
 use mathlib.Core.List.Memᴰ
 use mathlib.Core.List.{List, [], ◌∷◌, Memᴰ}
@@ -20,6 +21,9 @@ use native.Mathlib.Omega.{arith}
 use borrow.Author.Tests.{le-leb, lt-leb, lt-ltb, le-ltb, ne_eqb, eq-eqb}
 use lib.Dec.{leb}
 use lib.ListN.{length, get_or}
+use Rattle.std.proofs.Common.{Some, None}
+use Rattle.std.specs.Bool.{if◌then◌else◌}
+use Rattle.std.specs.Option.{unwrap_or}
 use Rattle.base.specs.Truths.{Decides}
 use Rattle.base.proofs.Laws.Decides.{decides_true, decides_false, decides_leb, decides_and, decides_or, decides_fails, decided}
 use Rattle.hexlines.specs.Digits.{Decimal, Capital, Small, Digit, digit_value, digit_of, digits_of, is_digit, byte_of}
@@ -73,6 +77,17 @@ module _ (c : ℕ) where
         | inl d ↦ rw (lt-ltb (digit_value c) 16 (digit_below d)) (decides_true d)
         | inr n ↦ rw (other_value (λ h. n (inl h)) (λ h. n (inr (inl h))) (λ h. n (inr (inr h)))) (decides_false n)
       ]
+
+-- A half of a pair has the digit's value; another character has 0.
+pub value_or_zero : (c : ℕ) → unwrap_or (if is_digit c then Some (digit_value c) else None) 0 ≡ digit_value c % 16
+value_or_zero c = by_case (is_digit c) (digit_decides c)
+  where
+    by_case : (b : Bool) → Decides b (Digit c) → unwrap_or (if b then Some (digit_value c) else None) 0 ≡ digit_value c % 16
+    by_case true d = let h = digit_below c (d.yes refl) in omega arith
+    by_case false d =
+        let none = d.no refl in
+        let v = other_value c (λ h. none (inl h)) (λ h. none (inr (inl h))) (λ h. none (inr (inr h))) in
+        omega arith
 
 -- A pair of digits is 16 times the first, and the second.
 pub bytes_of_pair : (a b : ℕ) (l : List ℕ) → Digit a → Digit b → bytes_of (a ∷ b ∷ l) ≡ (16 * digit_value a + digit_value b) ∷ bytes_of l

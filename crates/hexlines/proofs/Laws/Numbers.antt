@@ -1,6 +1,7 @@
 -- Laws of numbers, the most significant byte first, for any number of bytes:
 --   number_of_append, number_of_take: one byte more
 --   number_of_below, field_below, line_field_below: the range of a number, of a field of bytes, of a field of a line
+--   line_number_more, line_number_fits: the number of one byte more of a line, and that it is a word
 --   field_one: a field of one byte
 --   bytes_append, bytes_first, bytes_rest: the bytes of two lists one after the other
 --   length_number_bytes, number_bytes_below, number_of_number_bytes: the bytes of a number, which they say if it is small enough
@@ -9,8 +10,9 @@
 -- Assumes nothing.
 use mathlib.Core.Path.{◌≡◌, refl, sym, ap, ◌∙◌}
 use mathlib.Core.List.{List, [], ◌∷◌, ◌++◌}
-use Prim.Native.Nat.{ℕ, zero, suc, ◌+◌, ◌*◌, ◌/◌, ◌%◌, ◌^◌, ◌<◌}
+use Prim.Native.Nat.{ℕ, zero, suc, ◌+◌, ◌*◌, ◌/◌, ◌%◌, ◌^◌, ◌<◌, ◌≤◌}
 use native.Mathlib.Omega.{arith}
+use native.Mathlib.Numerals.{add-one}
 use native.Mathlib.Nat.{pow-succ', pow-le-pow_right, lt_of_lt_of_le, mod-one, mod-lt, mod-eq_of_lt, mul_assoc, add_comm, add-mul-div_right}
 use native.Mathlib.Decide.{dec_lt}
 use lib.Arith.{digits_lt, digits_div, mod-mul}
@@ -20,7 +22,7 @@ use lib.Seq.{take-suc, get_or-take, get_or-drop}
 use lib.ListN.{length, get_or, take, drop, length-append, length-take, get_or-eq_default}
 use Rattle.hexlines.specs.Lines.{bytes_of}
 use Rattle.hexlines.specs.Numbers.{number_of, field, number_bytes}
-use Rattle.hexlines.proofs.Laws.Lines.{bytes_of_below}
+use Rattle.hexlines.proofs.Laws.Lines.{bytes_of_below, length_bytes_of}
 
 pub number_of_append : (bs : List ℕ) (b : ℕ) → number_of (bs ++ (b ∷ [])) ≡ number_of bs * 256 + b
 number_of_append [] b = omega arith
@@ -51,6 +53,19 @@ field_below i width bs h =
 
 pub line_field_below : (l : List ℕ) (i width : ℕ) → field i width (bytes_of l) < 256 ^ width
 line_field_below l i width = field_below i width (bytes_of l) (bytes_of_below l)
+
+-- ---- a line's number, byte by byte
+
+module _ (l : List ℕ) (i : ℕ) (below : i < length l / 2) where
+  pub line_number_more : number_of (take (i + 1) (bytes_of l)) ≡ number_of (take i (bytes_of l)) * 256 + get_or (bytes_of l) i 0
+  line_number_more = rw add-one (number_of_take (bytes_of l) i (rw length_bytes_of below))
+
+  -- that of at most eight bytes is a word
+  pub line_number_fits : length l ≤ 16 → number_of (take i (bytes_of l)) * 256 + get_or (bytes_of l) i 0 < 2 ^ 64
+  line_number_fits few =
+      rw (← line_number_more) (lt_of_lt_of_le (line_field_below l 0 (i + 1)) (pow-le-pow_right (lit< tt) {j = 8} (omega arith)))
+
+-- ---- a field of one byte
 
 pub field_one : (i : ℕ) (bs : List ℕ) → field i 1 bs ≡ get_or bs i 0
 field_one zero [] = refl

@@ -20,7 +20,7 @@ use Rattle.policy.specs.Model.{Table}
 use Rattle.policy.specs.Views.{table_of, Held}
 use Rattle.policy.specs.Wellformed.{Wellformed}
 use Rattle.policy.specs.declared.table.Table.{Table as TableStruct}
-use Rattle.policy.proofs.Laws.Tables.{Sized, Counted, counted}
+use Rattle.policy.proofs.Laws.Tables.{Sized, Counted}
 use Rattle.kinds.specs.Views.{Rooted}
 use Rattle.kinds.specs.Kinds.{row_kind_count, filter_kind_count, no_second, anomaly}
 use Rattle.kinds.specs.Entries.{gather, listed, Block, row_block, filter_block, of_kind, of_thing, of_block, entries, most_entries}
@@ -29,6 +29,7 @@ use Rattle.kinds.proofs.Laws.Entries.{gather_same, entries_blocks}
 use Rattle.kinds.proofs.Laws.Splits.{anomaly_filter}
 use Rattle.kinds.proofs.Laws.Few.{entries_few}
 use Rattle.listing.specs.Marks.{MarkedPairs, MarkedFilters, filter_marks, mark_at, row_count, listed_if, kind_marked, thing_marked, block_marked}
+use Rattle.verdicts.proofs.Laws.Lent.{six, counted_lent}
 use Rattle.listing.proofs.Laws.Puts.{from, from_begun, from_none}
 use Rattle.listing.proofs.Laws.Tables.{alone_at, paired_at, alone_row_kinds, paired_row_kinds, own_listed, pair_listed, row_count_lem, filter_listed, filter_unlisted, filters_count}
 
@@ -80,12 +81,12 @@ block_listed t b own pairs two one =
     (λ j k m. ap (λ (y : Bool). listed_if y i kind j) (two i j kind (omega arith) (omega arith) from to)) x
     ++ listed_if (one i kind (omega arith) from to x) i kind no_second)))
 
-module _ (t : TableStruct) (z : Sized t) (held : Held t) (w : Wellformed (table_of t)) (roots : List ℕ) (r : Rooted t.parents t.heads t.bounds t.rows roots) where
+module _ (t : TableStruct) (held : Held t) (w : Wellformed (table_of t)) (z : Sized (six t)) (roots : List ℕ) (r : Rooted t.parents t.heads t.bounds t.rows roots) where
   abbrev T : Table
   T = table_of t
 
   counts : Counted t
-  counts = let a = held.capped in let b = z.caps in counted t (omega arith)
+  counts = counted_lent t held w
 
   -- nothing is marked
   pub marking_start : Marking t roots (replicate most_rows 0) (replicate (most_rows * most_rows) 0) 0 0
@@ -111,7 +112,7 @@ module _ (t : TableStruct) (z : Sized t) (held : Held t) (w : Wellformed (table_
 
     counted_more : n + row_count m after t.rows i + length (from (of_thing T (row_block T)) t.rows (i + 1)) ≡ length (of_block T (row_block T))
     counted_more =
-        let a = row_count_lem t z held w roots r i h m after o (λ j l. paired_more i j (omega arith) l) in
+        let a = row_count_lem t held w z roots r i h m after o (λ j l. paired_more i j (omega arith) l) in
         let b = ap length (from_begun (of_thing T (row_block T)) t.rows i h) ∙ length-append (of_thing T (row_block T) i) (from (of_thing T (row_block T)) t.rows (i + 1)) in
         let c = g.count in
         omega arith
@@ -153,9 +154,9 @@ module _ (t : TableStruct) (z : Sized t) (held : Held t) (w : Wellformed (table_
     of_rows k j kind hk hj b =
         let few = held.rows in
         p.marks k j kind (omega arith) (omega arith)
-        ∙ rw (filter_unlisted t z held w k j kind b) (simp (and-false, or-false))
+        ∙ rw (filter_unlisted t held w z k j kind b) (simp (and-false, or-false))
         ∙ ap (λ (x : ℕ). marked x kind) (g.paired k j (omega arith) hj)
-        ∙ pair_listed t z held w roots r k hk j hj kind b
+        ∙ pair_listed t held w z roots r k hk j hj kind b
 
     -- and of filters, whose numbers have those of rows
     of_filters_lem : (k j kind : ℕ) → k < t.filters → j < t.filters → row_kind_count < kind → marked (mark_at after k j) kind ≡ anomaly T k kind j
@@ -163,7 +164,7 @@ module _ (t : TableStruct) (z : Sized t) (held : Held t) (w : Wellformed (table_
         let few = held.filters in
         p.marks k j kind (omega arith) (omega arith)
         ∙ ap (λ (x : Bool). x || also k j kind) (g.pairs_row_kinds (most_rows * k + j) kind b)
-        ∙ rw (lt-ltb k t.filters hk, lt-ltb j t.filters hj) (filter_listed t z held w k j kind hk hj b)
+        ∙ rw (lt-ltb k t.filters hk, lt-ltb j t.filters hj) (filter_listed t held w z k j kind hk hj b)
 
     pub marking_all : Marked t own after (n + m)
     marking_all =
@@ -174,7 +175,7 @@ module _ (t : TableStruct) (z : Sized t) (held : Held t) (w : Wellformed (table_
               (λ x. block_marked own after (record { things = sym rows x; kind = 1; kinds = row_kind_count }))
               ∙ block_listed T (row_block T) own after
               (λ k j kind hk hj a b. of_rows k j kind (omega arith) (omega arith) (omega arith))
-              (λ k kind hk a b. own_listed t z held w roots r k (omega arith) (get_or own k 0) (g.alone k (omega arith)) kind);
+              (λ k kind hk a b. own_listed t held w z roots r k (omega arith) (get_or own k 0) (g.alone k (omega arith)) kind);
           filters =
               (λ x. block_marked own after (record { things = sym filters x; kind = suc row_kind_count; kinds = filter_kind_count }))
               ∙ block_listed T (filter_block T) own after
@@ -184,7 +185,7 @@ module _ (t : TableStruct) (z : Sized t) (held : Held t) (w : Wellformed (table_
               let a = g.count in
               let b = ap length (from_none (of_thing T (row_block T)) t.rows i (omega arith)) in
               let c = p.count in
-              let d = filters_count t z held w in
+              let d = filters_count t held w z in
               let f = ap length (entries_blocks T) ∙ length-append (of_block T (row_block T)) (of_block T (filter_block T)) in
               omega arith;
         }

@@ -8,21 +8,17 @@ use mathlib.Core.List.{List, map}
 use native.Mathlib.Omega.{arith}
 use lib.Count.{ones}
 use lib.ListN.{length, get_or}
-use lib.Seq.{take_all}
 use Rattle.base.specs.Truths.{bit}
 use Rattle.base.proofs.Laws.Lists.{get_d_tabulate}
-use Rattle.policy.specs.Limits.{technologies}
 use Rattle.policy.specs.Model.{Table, no_filter, entity_at, filter_at, row_at, parent_of}
-use Rattle.policy.specs.Views.{parent_in, row_in, filter_in, coefficients_of, table_of, Held}
+use Rattle.policy.specs.Views.{parent_in, row_in, filter_in, table_of, Held}
 use Rattle.policy.specs.Wellformed.{Wellformed}
 use Rattle.policy.specs.declared.table.Table.{Table as TableStruct}
 use Rattle.policy.proofs.Laws.Lists.{length_rows, row_of_rows}
-use Rattle.policy.proofs.Laws.Tables.{Sized, Counted, counted, mask_same, parents_same}
+use Rattle.policy.proofs.Laws.Tables.{Sized, Counted, mask_same, parents_same}
 use Rattle.relations.specs.Entities.{Parents, root_of}
 use Rattle.relations.proofs.Laws.Entities.{root_le}
 use Rattle.relations.proofs.Laws.Tables.{table_tree}
-use Rattle.verdicts.specs.Verdicts.{is_none}
-use Rattle.verdicts.proofs.Laws.Tables.{lent_verdict}
 use Rattle.kinds.specs.Meanings.{IsRow, source_root, destination_root}
 use Rattle.kinds.specs.Views.{from_in, to_in, Ends, Rooted}
 use Rattle.kinds.specs.Seen.{Seen, seen_of, pair_in}
@@ -37,9 +33,9 @@ use Rattle.kinds.proofs.Laws.Splits.{anomaly_pair, anomaly_row, anomaly_filters,
 use Rattle.kinds.proofs.Laws.Alike.{Alike, pair_alike, row_alike}
 use Rattle.base.specs.Bits.{bits_of, marked}
 use Rattle.listing.specs.Marks.{GoodRow, GoodRows, GoodAlone, seen_in, pair_marks, filter_marks, mark_at, row_count}
-use Rattle.listing.specs.declared.marks.Alone.{Alone}
 use Rattle.base.proofs.Laws.Bits.{marked_bits}
 use Rattle.listing.proofs.Laws.Ones.{ones_kinds}
+use Rattle.verdicts.proofs.Laws.Lent.{six, counted_lent, caps_lent, parents_lent, row_dead}
 
 -- The first twenty of twenty-two numbers, where the others have none, and the last two.
 first_kinds : (f g : ℕ → Bool) → ((kind : ℕ) → kind ≤ row_kind_count → f kind ≡ g kind) → ((kind : ℕ) → row_kind_count < kind → f kind ≡ false)
@@ -58,13 +54,10 @@ last_kinds f g same none =
     let c = sum_none (λ kind. bit (f kind)) row_kind_count 1 (λ kind l m. ap bit (none kind (omega arith))) in
     omega arith
 
--- Row i alone; what the tests look at; the kinds of row i alone, and with row j.
-abbrev pub alone_in : TableStruct → ℕ → Alone
-alone_in t i = record { caps = t.caps; floor = t.floor; filters = t.filters; rows = t.rows; i = i }
-
+-- What the tests look at; the kinds of row i alone, and with row j.
 module _ (t : TableStruct) (roots : List ℕ) where
   abbrev seen : ℕ → Seen
-  seen i = seen_in t.parents t.masks t.filter_roots t.filter_actions t.heads t.bounds roots (alone_in t i)
+  seen i = seen_in t roots i
 
   abbrev pub alone_at : ℕ → ℕ
   alone_at i = bits_of (row_tests (seen i) i)
@@ -79,7 +72,7 @@ module _ (t : TableStruct) (roots : List ℕ) where
   pub paired_row_kinds : (i j kind : ℕ) → row_kind_count < kind → marked (paired_at i j) kind ≡ false
   paired_row_kinds i j kind h = marked_bits (pair_tests (pair_in (seen i) i j)) kind ∙ no_pair (pair_in (seen i) i j) kind (filter_kind_lem kind h)
 
-module _ (t : TableStruct) (z : Sized t) (held : Held t) (w : Wellformed (table_of t)) where
+module _ (t : TableStruct) (held : Held t) (w : Wellformed (table_of t)) (z : Sized (six t)) where
   abbrev T : Table
   T = table_of t
 
@@ -87,19 +80,10 @@ module _ (t : TableStruct) (z : Sized t) (held : Held t) (w : Wellformed (table_
   rows_counted = length_rows t.heads t.bounds t.rows
 
   count : Counted t
-  count = let a = held.capped in let b = z.caps in counted t (omega arith)
+  count = counted_lent t held w
 
   entities_counted : length T.entities ≡ t.entities
   entities_counted = count.entities
-
-  -- all six caps are there
-  caps_same : map coefficients_of t.caps ≡ T.caps
-  caps_same =
-      let a = count.caps in
-      let b = w.counts.six_caps in
-      let c = z.caps in
-      let e : t.capped ≡ technologies = omega arith in
-      sym (ap (map coefficients_of) (take_all t.capped t.caps (omega arith)))
 
   is_row : (i : ℕ) → i < t.rows → IsRow T i
   is_row i h = let e = rows_counted in omega arith
@@ -119,6 +103,9 @@ module _ (t : TableStruct) (z : Sized t) (held : Held t) (w : Wellformed (table_
 
   parents : parent_in t.parents ≡ parent_of T
   parents = let n = held.entities in let m = z.parents in parents_same t held (omega arith)
+
+  pub tree : Parents t.parents
+  tree = parents_lent t held w z
 
   -- the roots that were found are the table's
   module _ (roots : List ℕ) (r : Rooted t.parents t.heads t.bounds t.rows roots) where
@@ -140,12 +127,12 @@ module _ (t : TableStruct) (z : Sized t) (held : Held t) (w : Wellformed (table_
       to_entity = root_entity _ _ to_same (w.row i (is_row i h)).destination
 
       -- what is asked for the kinds of row i
-      pub good_alone : Parents t.parents → GoodAlone t.parents t.heads t.bounds roots (alone_in t i)
-      good_alone p =
+      pub good_alone : GoodAlone t roots i
+      good_alone =
           let n = held.entities in
           let m = held.rows in
           record {
-            tree = p;
+            tree = tree;
             row = good_rows i h;
             few = m;
             place = omega arith;
@@ -161,7 +148,7 @@ module _ (t : TableStruct) (z : Sized t) (held : Held t) (w : Wellformed (table_
     alike i =
         record {
           up = parents;
-          caps = caps_same;
+          caps = caps_lent t held w;
           floor = refl;
           filters = sym count.filters;
           filter = λ k b. sym (get_d_tabulate (filter_in t.filter_roots t.filter_actions t.bounds) t.filters k no_filter b);
@@ -169,7 +156,7 @@ module _ (t : TableStruct) (z : Sized t) (held : Held t) (w : Wellformed (table_
           placed = λ i h x. record { row = row_same i h x; from = from_same i h x; to = to_same i h x };
           from_mask = λ i h. mask (from_in roots i) (source_root T i) (from_entity i h) (from_same i h);
           to_mask = λ i h. mask (to_in roots i) (destination_root T i) (to_entity i h) (to_same i h);
-          dead = λ i h. ap is_none (lent_verdict t z held i h);
+          dead = row_dead t held w z;
         }
 
     -- the anomalies that are marked are the table's, and as many as are marked

@@ -10,6 +10,7 @@ use lib.Count.{count_trailing_zeros}
 use lib.Dec.{eqb}
 use lib.ListN.{length, set, length-set}
 use lib.Seq.{get_or-set_same, get_or-set_other}
+use Rattle.std.specs.Prelude.{Option, Some, None}
 use Rattle.base.proofs.Laws.Bits.{first_bit, within_marked}
 use Rattle.base.proofs.Laws.Firsts.{below_more}
 use Rattle.base.proofs.Laws.Decides.{decides_eqb, decided}
@@ -17,7 +18,7 @@ use Rattle.policy.specs.Limits.{field_count}
 use Rattle.covers.specs.Sets.{In}
 use Rattle.mesh.specs.Views.{most_cuts, set_at}
 use Rattle.mesh.proofs.Laws.Loops.{SameBefore}
-use Rattle.mesh.specs.Blocks.{at, Free, Inside, Block, HasCell, Earlier, First, GoOn, Holding}
+use Rattle.mesh.specs.Blocks.{at, Free, Inside, IsBlock, HasCell, Earlier, Before, Better, First, GoOn, Holding}
 
 -- ---- which cell is earlier
 
@@ -71,20 +72,25 @@ below_earlier c d e h a = elim (differ c d a.field) [
       }
 ]
 
+-- The same of a cell that is earlier than the best so far, if there is one.
+before_trans : {c d : List ℕ} → Earlier c d → (best : Option (List ℕ)) → Before d best → Before c best
+before_trans a (Some e) b = earlier_trans a b
+before_trans a None b = tt
+
+below_before : (c d : List ℕ) → ((f : ℕ) → f < field_count → at c f ≤ at d f) → (best : Option (List ℕ)) → Before d best → Before c best
+below_before c d h (Some e) b = below_earlier c d e h b
+below_before c d h None b = tt
+
 -- ---- a block whose first cell is known
 
--- A block without cells has nothing.
-pub first_none : (sets lo hi best : List ℕ) → (HasCell lo hi → ⊥) → First sets lo hi best best
-first_none sets lo hi best n = record { one = inl refl; first = λ c i f e. n (λ g l. let k = i g l in omega (arith, k.0, k.1)) }
-
 -- A block whose first cell is not earlier than the best has nothing better.
-pub first_late : (sets lo hi best : List ℕ) → (Earlier lo best → ⊥) → First sets lo hi best best
-first_late sets lo hi best n = record { one = inl refl; first = λ c i f e. n (below_earlier lo c best (λ g l. (i g l).0) e) }
+pub first_late : (sets : List (List ℕ)) (lo hi : List ℕ) (best : Option (List ℕ)) → (Before lo best → ⊥) → First sets lo hi best best
+first_late sets lo hi best n = record { one = inl refl; first = λ c i f e. n (below_before lo c (λ g l. (i g l).0) best e) }
 
 -- If it is free and earlier it is the first.
-pub first_own : (sets lo hi best : List ℕ) → HasCell lo hi → Free sets lo → Earlier lo best → First sets lo hi best lo
+pub first_own : (sets : List (List ℕ)) (lo hi : List ℕ) (best : Option (List ℕ)) → HasCell lo hi → Free sets lo → Before lo best → First sets lo hi best (Some lo)
 first_own sets lo hi best b f e = record {
-  one = inr (λ g l. (omega arith, b g l), f, e);
+  one = inr (record { cell = lo; is = refl; inside = λ g l. (omega arith, b g l); free = f; before = e });
   first = λ c i g d. itself (below_earlier lo c lo (λ h l. (i h l).0) d);
 }
   where
@@ -93,7 +99,7 @@ first_own sets lo hi best b f e = record {
 
 -- ---- a block in which the boxes go on
 
-module _ (sets lo hi best : List ℕ) (boxes : ℕ) where
+module _ (sets : List (List ℕ)) (lo hi : List ℕ) (best : Option (List ℕ)) (boxes : ℕ) where
   -- Where they have all its intervals there is nothing free in it.
   pub first_held : boxes < 2 ^ 64 → (boxes ≡ 0 → ⊥) → Holding sets lo hi boxes 0 → First sets lo hi best best
   first_held small some h = record {
@@ -142,11 +148,11 @@ module _ (lo hi : List ℕ) (g e : ℕ) (known : g < field_count) (long-lo : len
   short = set hi g e
 
   -- Both are blocks, and that up to e has a cell where the whole has one.
-  pub past_block : Block lo hi → Block past hi
+  pub past_block : IsBlock lo hi → IsBlock past hi
   past_block b f =
       set_field lo g e (λ f x. f < field_count → (x ≤ at hi f) × (at hi f ≤ most_cuts)) (omega arith) (λ l. (below, (b g l).1)) (λ f q. b f) f
 
-  pub short_block : Block lo hi → Block lo short
+  pub short_block : IsBlock lo hi → IsBlock lo short
   short_block b f =
       set_field hi g e (λ f x. f < field_count → (at lo f ≤ x) × (x ≤ most_cuts)) (omega arith) (λ l. (omega arith, let h = (b g l).1 in omega arith)) (λ f q. b f) f
 
@@ -176,23 +182,33 @@ module _ (lo hi : List ℕ) (g e : ℕ) (known : g < field_count) (long-lo : len
       (k.0, omega (arith, k.1))
 
   -- The first free cell of both, one after the other.
-  pub first_halves : (sets best r₁ r₂ : List ℕ) → First sets past hi best r₁ → First sets lo short r₁ r₂ → First sets lo hi best r₂
+  pub first_halves : (sets : List (List ℕ)) (best r₁ r₂ : Option (List ℕ)) → First sets past hi best r₁ → First sets lo short r₁ r₂ → First sets lo hi best r₂
   first_halves sets best r₁ r₂ a b = record { one = found b.one a.one; first = none }
     where
-      found : (r₂ ≡ r₁) ⊎ (Inside lo short r₂ × Free sets r₂ × Earlier r₂ r₁) → (r₁ ≡ best) ⊎ (Inside past hi r₁ × Free sets r₁ × Earlier r₁ best)
-          → (r₂ ≡ best) ⊎ (Inside lo hi r₂ × Free sets r₂ × Earlier r₂ best)
+      found : (r₂ ≡ r₁) ⊎ Better sets lo short r₁ r₂ → (r₁ ≡ best) ⊎ Better sets past hi best r₁ → (r₂ ≡ best) ⊎ Better sets lo hi best r₂
       found (inl q) (inl p) = inl (q ∙ p)
-      found (inl q) (inr p) =
-          inr (subst (λ (r : List ℕ). Inside lo hi r × Free sets r × Earlier r best) (sym q) (of_past r₁ p.0, p.1, p.2))
-      found (inr q) (inl p) = inr (of_short r₂ q.0, q.1, subst (Earlier r₂) p q.2)
-      found (inr q) (inr p) = inr (of_short r₂ q.0, q.1, earlier_trans q.2 p.2)
+      found (inl q) (inr p) = inr (record { cell = p.cell; is = q ∙ p.is; inside = of_past p.cell p.inside; free = p.free; before = p.before })
+      found (inr q) (inl p) = inr (record {
+        cell = q.cell;
+        is = q.is;
+        inside = of_short q.cell q.inside;
+        free = q.free;
+        before = subst (Before q.cell) p q.before;
+      })
+      found (inr q) (inr p) = inr (record {
+        cell = q.cell;
+        is = q.is;
+        inside = of_short q.cell q.inside;
+        free = q.free;
+        before = before_trans (subst (Before q.cell) p.is q.before) best p.before;
+      })
 
       -- what is earlier than the last is earlier than the first
-      sooner : (c : List ℕ) → (r₂ ≡ r₁) ⊎ (Inside lo short r₂ × Free sets r₂ × Earlier r₂ r₁) → Earlier c r₂ → Earlier c r₁
-      sooner c (inl q) d = subst (Earlier c) q d
-      sooner c (inr q) d = earlier_trans d q.2
+      sooner : (c : List ℕ) → (r₂ ≡ r₁) ⊎ Better sets lo short r₁ r₂ → Before c r₂ → Before c r₁
+      sooner c (inl q) d = subst (Before c) q d
+      sooner c (inr q) d = before_trans (subst (Before c) q.is d) r₁ q.before
 
-      none : (c : List ℕ) → Inside lo hi c → Free sets c → Earlier c r₂ → ⊥
+      none : (c : List ℕ) → Inside lo hi c → Free sets c → Before c r₂ → ⊥
       none c i f d = elim (dec_lt (at c g) e) [
         | yes h ↦ b.first c (to_short c i h) f d
         | no h ↦ a.first c (to_past c i (omega arith)) f (sooner c b.one d)
@@ -242,34 +258,40 @@ module _ (lo hi : List ℕ) (g e : ℕ) (known : g < field_count) (long-lo : len
 -- ---- what the boxes leave, field by field
 
 -- From field f on what they leave of the block is cut off: the first free cell of what is left of it, or the one found, is that of all.
-pub record Cutting (sets lo hi best : List ℕ) (boxes : ℕ) (short found : List ℕ) (f : ℕ) : Type 0 where
+pub record Cutting (sets : List (List ℕ)) (lo hi : List ℕ) (best : Option (List ℕ)) (boxes : ℕ) (short : List ℕ) (found : Option (List ℕ)) (f : ℕ) : Type 0 where
   pub long : length short ≡ field_count
-  pub block : Block lo short
+  pub block : IsBlock lo short
   pub cell : HasCell lo short
   pub holding : Holding sets lo short boxes f
   pub small : size lo short ≤ size lo hi
-  pub so_far : (r : List ℕ) → First sets lo short found r → First sets lo hi best r
+  pub so_far : (r : Option (List ℕ)) → First sets lo short found r → First sets lo hi best r
 
-module _ (sets lo hi best : List ℕ) (boxes : ℕ) where
-  pub cutting_start : length hi ≡ field_count → Block lo hi → HasCell lo hi → Holding sets lo hi boxes field_count → Cutting sets lo hi best boxes hi best field_count
-  cutting_start l b c h = record { long = l; block = b; cell = c; holding = h; small = omega arith; so_far = λ r w. w }
-
-  pub cutting_end : (short found : List ℕ) → boxes < 2 ^ 64 → (boxes ≡ 0 → ⊥) → Cutting sets lo hi best boxes short found 0 → First sets lo hi best found
+module _ (sets : List (List ℕ)) (lo hi : List ℕ) (best : Option (List ℕ)) (boxes : ℕ) where
+  pub cutting_end : (short : List ℕ) (found : Option (List ℕ)) → boxes < 2 ^ 64 → (boxes ≡ 0 → ⊥) → Cutting sets lo hi best boxes short found 0 → First sets lo hi best found
   cutting_end short found n z c = c.so_far found (first_held sets lo short found boxes n z c.holding)
 
-  -- One field more.
-  module _ (short found : List ℕ) (f e : ℕ) (long : length lo ≡ field_count) (some : f ≡ 0 → ⊥) (c : Cutting sets lo hi best boxes short found f)
+  -- One field more, in which they go on to the end of the block.
+  pub cutting_on : (short : List ℕ) (found : Option (List ℕ)) (f : ℕ) → (f ≡ 0 → ⊥) → Cutting sets lo hi best boxes short found f
+      → GoOn sets (f - 1) (at lo (f - 1)) (at short (f - 1)) boxes (at short (f - 1)) → Cutting sets lo hi best boxes short found (f - 1)
+  cutting_on short found f some c g = record {
+    long = c.long;
+    block = c.block;
+    cell = c.cell;
+    holding = held_next sets lo short found boxes f (at short (f - 1)) short some c.holding g refl (λ j q. refl);
+    small = c.small;
+    so_far = c.so_far;
+  }
+
+  -- One field more, in which they end before.
+  module _ (short : List ℕ) (found : Option (List ℕ)) (f e : ℕ) (long : length lo ≡ field_count) (some : f ≡ 0 → ⊥) (c : Cutting sets lo hi best boxes short found f)
       (g : GoOn sets (f - 1) (at lo (f - 1)) (at short (f - 1)) boxes e) where
     known : f - 1 < field_count
     known = let h = c.holding.fields in omega (arith, some)
 
-    pub cut_block : Block (set lo (f - 1) e) short
-    cut_block = past_block lo short (f - 1) e known long c.long g.after g.most c.block
-
     pub cut_size : size (set lo (f - 1) e) short < size lo hi
     cut_size = let a = past_size lo short (f - 1) e known long c.long g.after g.most in omega (arith, c.small)
 
-    pub cutting_next : (next : List ℕ) → First sets (set lo (f - 1) e) short found next → Cutting sets lo hi best boxes (set short (f - 1) e) next (f - 1)
+    pub cutting_next : (next : Option (List ℕ)) → First sets (set lo (f - 1) e) short found next → Cutting sets lo hi best boxes (set short (f - 1) e) next (f - 1)
     cutting_next next w = record {
       long = length-set short (f - 1) e ∙ c.long;
       block = short_block lo short (f - 1) e known long c.long g.after g.most c.block;

@@ -1,7 +1,7 @@
 -- The next cut after a number: with one candidate more, with one box more, and of all boxes of a list.
 -- Assumes nothing.
 use Prim.Native.Nat.{ℕ, ◌+◌, ◌≤◌, ◌<◌, min}
-use mathlib.Core.Path.{◌≡◌, refl, sym, subst, ◌∙◌}
+use mathlib.Core.Path.{◌≡◌, refl, sym, ap, subst, ◌∙◌}
 use mathlib.Core.Bool.{true, false, ◌&&◌}
 use mathlib.Core.Logic.{◌⊎◌, inl, inr}
 use mathlib.Core.List.{Memᴰ}
@@ -9,15 +9,20 @@ use native.Mathlib.Decide.{dec_lt}
 use native.Mathlib.Omega.{arith}
 use borrow.Author.Tests.{lt-ltb, le-ltb, le-leb, lt-leb}
 use lib.Dec.{ltb}
+use lib.ListN.{length, get_or, take}
+use Rattle.std.proofs.lemmas.List.{length-take, get_or-take}
 use Rattle.base.specs.Truths.{pick}
 use Rattle.base.specs.Lists.{tabulate}
 use Rattle.base.proofs.Laws.Lists.{length_tabulate, get_d_tabulate}
 use Rattle.base.proofs.Laws.Members.{member_at, at_member}
 use Rattle.policy.specs.Model.{Range, no_range}
 use Rattle.relations.specs.Ranges.{Within}
+use Rattle.policy.specs.Views.{range_in}
+use Rattle.covers.specs.Sets.{field_of}
 use Rattle.covers.specs.Views.{NextValue, comes, end}
+use Rattle.mesh.specs.declared.Mesh.{Mesh}
 use Rattle.mesh.specs.Promises.{Cut}
-use Rattle.mesh.specs.Views.{nearer_of, with_cut, Nearest}
+use Rattle.mesh.specs.Views.{nearer_of, with_cut, Nearest, fields_of}
 
 -- ---- one candidate more
 
@@ -74,9 +79,6 @@ CutBy r field v k x = Within r x × (v < x) × ((j : ℕ) × (j < k) × ((x ≡ 
 module _ (r : Range) (field : ℕ → Range) (v : ℕ) (w : Within r v) where
   abbrev By : ℕ → ℕ → Type 0
   By k x = CutBy r field v k x
-
-  pub nearest_none : Nearest (By 0) v end
-  nearest_none x b l = let h = b.2.1 in omega arith
 
   -- Past v every number up to the high is in the range.
   past : (x : ℕ) → v < x → x ≤ r.high → Within r x
@@ -139,3 +141,29 @@ module _ (r : Range) (field : ℕ → Range) (v : ℕ) (w : Within r v) where
   pub nearest_cut : (count : ℕ) (n : NextValue) → Nearest (By count) v n → Nearest (Cut r (tabulate field count)) v n
   nearest_cut count (comes w) m = (to_cut count w m.0, m.1, λ x c l. m.2 x (of_cut count x l c) l)
   nearest_cut count end m = λ x c l. m x (of_cut count x l c) l
+
+-- ---- of the boxes of a mesh
+
+module _ (m : Mesh) (f : ℕ) (r : Range) (v : ℕ) (w : Within r v) where
+  abbrev field : ℕ → Range
+  field k = field_of m.bounds.now m.boxes.at f k
+
+  -- One more, q, of those that are counted: the cut before it, and then the one after it.
+  pub nearest_both : (k : ℕ) (q : Range) → k < length (take m.boxes.count m.boxes.at) → q ≡ range_in m.bounds.now (get_or (take m.boxes.count m.boxes.at) k 0) f
+      → (next low high : NextValue) → low ≡ with_cut r v q.low next → high ≡ with_cut r v (q.high + 1) low
+      → Nearest (CutBy r field v k) v next → Nearest (CutBy r field v (k + 1)) v high
+  nearest_both k q l e next low high a b n =
+      let i : k < m.boxes.count = omega (arith, length-take m.boxes.count m.boxes.at) in
+      let p : q ≡ field k = e ∙ (λ x. range_in m.bounds.now (get_or-take m.boxes.count m.boxes.at k 0 i x) f) in
+      subst (Nearest (CutBy r field v (k + 1)) v)
+      (sym (b ∙ ap (λ (n : NextValue). with_cut r v (q.high + 1) n) a ∙ ap (λ (x : Range). with_cut r v (x.high + 1) (with_cut r v x.low next)) p))
+      (nearest_box r field v w k next n)
+
+  -- Of all of them.
+  pub nearest_all : (k : ℕ) (next : NextValue) → k ≡ length (take m.boxes.count m.boxes.at)
+      → Nearest (CutBy r field v k) v next → Nearest (Cut r (fields_of m f)) v next
+  nearest_all k next e n =
+      let few = m.listed.few in
+      let long = m.listed.long in
+      let i : k ≡ m.boxes.count = omega (arith, length-take m.boxes.count m.boxes.at) in
+      nearest_cut r field v w m.boxes.count next (subst (λ (k : ℕ). Nearest (CutBy r field v k) v next) i n)

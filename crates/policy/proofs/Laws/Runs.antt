@@ -2,14 +2,16 @@
 -- stands at another stays (`..-elsewhere`). Of a thing with any number of numbers, and of a selector, whose words give it back. Those of a table's
 -- entities, filters and rows are in Lists.antt.
 -- Assumes nothing.
-use mathlib.Core.Path.{◌≡◌, refl, ap, ◌∙◌}
+use mathlib.Core.Path.{◌≡◌, refl, sym, ap, ◌∙◌}
 use mathlib.Core.List.{List, [], ◌∷◌}
 use Prim.Native.Nat.{ℕ, zero, suc, ◌+◌, ◌*◌, ◌≤◌, ◌<◌}
 use native.Mathlib.Nat.{add-zero, add_assoc, mul-suc, mul-le-mul_left}
 use native.Mathlib.Decide.{dec_lt}
 use native.Mathlib.Omega.{arith}
 use lib.ListN.{length, get_or}
-use lib.Seq.{sets}
+use lib.Seq.{sets, sets-eq, take-length}
+use borrow.Rule.Slice.PartMut.{put_mid}
+use Rattle.std.proofs.lemmas.Slice.{put_mid-paste}
 use lib.Arith.{digits_div, digits_mod}
 use lib.Pow.{split}
 use Rattle.base.proofs.Laws.Lists.{tabulate_same, tabulate_counted, get_d_sets_inside, get_d_sets_outside}
@@ -49,6 +51,13 @@ module _ (n : ℕ) (run : List ℕ) (i : ℕ) (vs : List ℕ) (all : length vs �
   numbers_elsewhere j h =
       tabulate_same (λ c. get_or (sets run (n * i) vs) (n * j + c) 0) (λ c. get_or run (n * j + c) 0) n
       (λ c b. get_d_sets_outside run (n * i) vs (n * j + c) 0 (λ d a e. apart n j i c d h b (omega arith) e))
+
+-- ---- a part that is copied to
+
+-- What a part of a run holds after a copy stands there as if it were stored.
+pub part_stored : (at k : ℕ) (run part vs : List ℕ) → part ≡ vs → k ≡ length vs → at + length vs ≤ length run → put_mid at k run part ≡ sets run at vs
+part_stored at k run part vs e f h =
+    rw (sets-eq vs run at h) (rw take-length at (put_mid-paste at k run part vs (length vs) e (sym f) refl))
 
 -- ---- a selector
 

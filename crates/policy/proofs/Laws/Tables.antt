@@ -13,17 +13,14 @@ use denote.Struct.Declared.{row}
 use denote.Struct.Laws.{val}
 use lib.ListN.{length, get_or, take, length-map, get_or-eq_default}
 use lib.Seq.{length-take-le}
-use Rattle.policy.specs.Limits.{most_entities, technologies, most_filters, most_rows, most_gateways, most_selectors, head_count, word_count}
+use Rattle.policy.specs.Limits.{most_entities, technologies, most_filters, most_rows, most_selectors, head_count, word_count}
 use Rattle.policy.specs.Model.{Table, no_parent, no_entity, entity_at, parent_of}
 use Rattle.policy.specs.Views.{coefficients_of, parent_in, entity_in, filter_in, table_of, Held}
 use Rattle.policy.specs.Wellformed.{Wellformed}
-use Rattle.policy.specs.declared.row.Row.{Row as RowStruct}
 use Rattle.policy.specs.declared.table.Table.{Table as TableStruct}
 use Rattle.base.specs.Lists.{tabulate}
 use Rattle.base.proofs.Laws.Lists.{get_d_default, length_tabulate, get_d_tabulate, map_tabulate, tabulate_take}
 use Rattle.policy.proofs.Laws.Lists.{length_rows}
-use Rattle.policy.specs.contracts.row.Row.{the_type as row_type}
-use Rattle.policy.proofs.row.Row.TheLaws.{the_laws as row_laws}
 use Rattle.policy.specs.contracts.table.Table.{the_type}
 use Rattle.policy.proofs.table.Table.TheLaws.{the_laws}
 
@@ -46,9 +43,6 @@ length_mapped f l n e = sym (length-map l f) ∙ e
 
 pub sized : (t : TableStruct) → Is (row the_type) t (val the_type the_laws t ∷ []) → Sized t
 sized t good = search (length_mapped, rules)
-
-pub eight_gateways : (r : RowStruct) → Is (row row_type) r (val row_type row_laws r ∷ []) → length r.gateways ≡ most_gateways
-eight_gateways r good = search rules
 
 -- ---- the table's lists
 

@@ -20,8 +20,10 @@ use Rattle.listing.proofs.Laws.Puts.{length_bytes}
 use Rattle.striking.specs.Texts.{struck_text}
 use Rattle.analyser.specs.Calls.{list_of, list_written, strike_of, strike_written}
 use Rattle.analyser.specs.Views.{count_answer}
-use Rattle.analyser.specs.declared.Counted.{Counted}
-use Rattle.analyser.specs.declared.Counted.TheVariants.{Count, Refused}
+use Rattle.std.specs.Prelude.{Result, Ok, Err}
+use Rattle.base.specs.Outputs.{short}
+use Rattle.base.specs.declared.Short.{Short}
+use Rattle.frames.specs.declared.refusals.Refusal.{Refusal}
 use Rattle.analyser.proofs.Laws.Outputs.{room, no_room, list_told, list_refused, list_wrote, strike_told, strike_refused, strike_wrote, strike_left}
 use Rattle.printing.specs.Printed.{refusal_line, hex_lines, list_printed, struck_printed, Prints}
 use Rattle.printing.proofs.Laws.Lines.{lines_bytes}
@@ -29,8 +31,8 @@ use Rattle.printing.proofs.Laws.Printed.{prints_not, prints_all, prints_other}
 
 -- ---- what List answers with room for all entries
 
-module _ (input out after : List ℕ) (r : Counted) (long : length out ≡ entry_bytes * most_entries) (a : count_answer r ≡ list_of (parse input) out) where
-  pub rowlist_counted : (n : ℕ) → r ≡ Count n → after ≡ list_written (parse input) out → hex_lines (take (entry_bytes * n) after) ≡ list_printed (parse input)
+module _ (input out after : List ℕ) (r : Result ℕ Refusal) (long : length out ≡ entry_bytes * most_entries) (a : count_answer r ≡ list_of (parse input) out) where
+  pub rowlist_counted : (n : ℕ) → r ≡ Ok n → after ≡ list_written (parse input) out → hex_lines (take (entry_bytes * n) after) ≡ list_printed (parse input)
   unfolding list_printed
   rowlist_counted n e o =
       let w = list_told (parse input) out n (sym a ∙ ap count_answer e) in
@@ -42,19 +44,19 @@ module _ (input out after : List ℕ) (r : Counted) (long : length out ≡ entry
       ∙ lines_bytes es
       ∙ sym (ap list_printed w.read)
 
-  pub rowlist_refused : (number line : ℕ) → r ≡ Refused number line → refusal_line number line ≡ list_printed (parse input)
+  pub rowlist_refused : (q : Refusal) → r ≡ Err q → refusal_line q.number q.line ≡ list_printed (parse input)
   unfolding list_printed
-  rowlist_refused number line e = elim (list_refused (parse input) out number line (sym a ∙ ap count_answer e)) [
+  rowlist_refused q e = elim (list_refused (parse input) out q.number q.line (sym a ∙ ap count_answer e)) [
     | inl p ↦ sym (ap list_printed p)
     | inr w ↦ let few = entries_few w.0.table (accepted_wellformed input w.0.table w.1) in
         let b = length_bytes (entries w.0.table) in
-        absurd (omega (arith, no_room (bytes (entries w.0.table)) out number w.2))
+        absurd (omega (arith, no_room (bytes (entries w.0.table)) out q.number w.2))
   ]
 
 -- ---- what Strike answers
 
-module _ (input out after : List ℕ) (r : Counted) (a : count_answer r ≡ strike_of input (parse input) out) (o : after ≡ strike_written input (parse input) out) where
-  pub strike_whole : (n : ℕ) → r ≡ Count n → Prints (struck_printed input (parse input)) out after n
+module _ (input out after : List ℕ) (r : Result ℕ Refusal) (a : count_answer r ≡ strike_of input (parse input) out) (o : after ≡ strike_written input (parse input) out) where
+  pub strike_whole : (n : ℕ) → r ≡ Ok n → Prints (struck_printed input (parse input)) out after (Ok n)
   unfolding struck_printed
   strike_whole n e =
       let w = strike_told input (parse input) out n (sym a ∙ ap count_answer e) in
@@ -65,7 +67,13 @@ module _ (input out after : List ℕ) (r : Counted) (a : count_answer r ≡ stri
       (o ∙ strike_wrote input (parse input) out w ∙ written_all result out l)
       w.tells)
 
-  module _ (number line : ℕ) (e : r ≡ Refused number line) where
+  module _ (q : Refusal) (e : r ≡ Err q) where
+    abbrev number : ℕ
+    number = q.number
+
+    abbrev line : ℕ
+    line = q.line
+
     why : (parse input ≡ refused_by number line) ⊎ ((t : Table) × (parse input ≡ returned (table_read t)) × (number ≡ short_output) × (length out < length (struck_text input t)))
     why = elim (strike_refused input (parse input) out number line (sym a ∙ ap count_answer e)) [
       | inl p ↦ inl p
@@ -77,7 +85,7 @@ module _ (input out after : List ℕ) (r : Counted) (a : count_answer r ≡ stri
     unchanged = o ∙ strike_left input (parse input) out number line (sym a ∙ ap count_answer e)
 
     -- A text's own refusals have smaller numbers.
-    pub strike_short : number ≡ short_output → Prints (struck_printed input (parse input)) out after 0
+    pub strike_short : number ≡ short_output → Prints (struck_printed input (parse input)) out after (Err short)
     unfolding struck_printed
     strike_short s = elim why [
       | inl p ↦ absurd (omega (arith, (refused_line input number line p).1.1))
@@ -85,7 +93,7 @@ module _ (input out after : List ℕ) (r : Counted) (a : count_answer r ≡ stri
     ]
 
     -- The line of any other refusal is put into the output as it was.
-    pub strike_refusal : {end : List ℕ} {n : ℕ} → (number ≡ short_output → ⊥) → Prints (refusal_line number line) after end n → Prints (struck_printed input (parse input)) out end n
+    pub strike_refusal : {end : List ℕ} {n : Result ℕ Short} → (number ≡ short_output → ⊥) → Prints (refusal_line number line) after end n → Prints (struck_printed input (parse input)) out end n
     unfolding struck_printed
     strike_refusal {end} {n} other put = elim why [
       | inl p ↦ prints_other (sym (ap (struck_printed input) p)) (subst (λ (l : List ℕ). Prints (refusal_line number line) l end n) unchanged put)

@@ -5,6 +5,8 @@ use mathlib.Core.Path.{◌≡◌, refl, sym, ◌∙◌}
 use mathlib.Core.List.{List, [], ◌∷◌, ◌++◌}
 use lib.ListN.{length, take, drop}
 use lib.Seq.{take-append_seam, drop-append_seam}
+use Rattle.std.specs.Prelude.{Result, Ok}
+use Rattle.base.specs.declared.Short.{Short}
 use Rattle.base.specs.Answers.{returned, refused_by}
 use Rattle.base.proofs.Laws.Outputs.{fits_all, written_all}
 use Rattle.policy.specs.Model.{Table}
@@ -51,9 +53,11 @@ lines_more e es = refl
 
 -- ---- the output
 
-pub prints_whole : (result before after : List ℕ) (n : ℕ) → length result ≤ length before → Prints result before after n
-    → (take n after ≡ result) × (drop n after ≡ drop n before)
-prints_whole result before after n h p =
-    let long : n ≡ length result = p.answer ∙ rw (fits_all result before h) in
-    let whole : after ≡ result ++ drop (length result) before = p.output ∙ sym (written_all result before h) in
-    rw (long, whole) (take-append_seam result (drop (length result) before), drop-append_seam result (drop (length result) before))
+pub prints_whole : (result before after : List ℕ) (r : Result ℕ Short) → length result ≤ length before → Prints result before after r
+    → (r ≡ Ok (length result)) × (take (length result) after ≡ result) × (drop (length result) after ≡ drop (length result) before)
+prints_whole result before after r h p =
+    let whole : after ≡ result ++ drop (length result) before = p.output ∙ sym (written_all result before h) in (
+      p.answer ∙ rw (fits_all result before h),
+      rw whole (take-append_seam result (drop (length result) before)),
+      rw whole (drop-append_seam result (drop (length result) before)),
+    )

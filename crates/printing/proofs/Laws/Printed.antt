@@ -7,7 +7,9 @@ use native.Mathlib.Omega.{arith}
 use borrow.Author.Tests.{le-leb, lt-leb}
 use lib.ListN.{length, length-append}
 use lib.Seq.{length-take-le}
-use Rattle.base.specs.Outputs.{written}
+use Rattle.std.specs.Prelude.{Result, Ok, Err}
+use Rattle.base.specs.Outputs.{written, short}
+use Rattle.base.specs.declared.Short.{Short}
 use Rattle.base.proofs.Laws.Outputs.{fits_not, written_not, fits_all, written_all}
 use Rattle.reader.specs.States.{parse}
 use Rattle.printing.specs.Limits.{most_input}
@@ -16,16 +18,16 @@ use Rattle.printing.specs.Printed.{too_long, printed, list_printed, struck_print
 -- ---- an output
 
 module _ (result out : List ℕ) where
-  pub prints_not : length out < length result → Prints result out out 0
-  prints_not h = record { output = written_not result out h; answer = rw (fits_not result out h) refl; within = omega arith; part = refl }
+  pub prints_not : length out < length result → Prints result out out (Err short)
+  prints_not h = record { output = written_not result out h; answer = rw (fits_not result out h) refl; within = tt; part = tt }
 
-  pub prints_all : (after : List ℕ) (n : ℕ) → length result ≤ length out → after ≡ written result out → n ≡ length result → Prints result out after n
+  pub prints_all : (after : List ℕ) (n : ℕ) → length result ≤ length out → after ≡ written result out → n ≡ length result → Prints result out after (Ok n)
   prints_all after n h a e =
       let l : n ≤ length after = omega (arith, simp length-append at (ap length (a ∙ sym (written_all result out h)))) in
-      record { output = a; answer = rw (fits_all result out h) e; within = l; part = sym (length-take-le n after l) }
+      record { output = a; answer = rw (fits_all result out h) (ap Ok e); within = l; part = sym (length-take-le n after l) }
 
-pub prints_other : {result other before after : List ℕ} {n : ℕ} → result ≡ other → Prints result before after n → Prints other before after n
-prints_other {result} {other} {before} {after} {n} e p = subst (λ (r : List ℕ). Prints r before after n) e p
+pub prints_other : {result other before after : List ℕ} {r : Result ℕ Short} → result ≡ other → Prints result before after r → Prints other before after r
+prints_other {result} {other} {before} {after} {r} e p = subst (λ (l : List ℕ). Prints l before after r) e p
 
 -- ---- an input
 

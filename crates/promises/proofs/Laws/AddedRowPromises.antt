@@ -6,6 +6,7 @@ use mathlib.Core.Path.{◌≡◌, refl, sym, ap, subst, subst⁻¹, ◌∙◌}
 use mathlib.Core.Logic.{◌↔◌, inl, inr}
 use mathlib.Core.List.{List, ◌++◌, Memᴰ}
 use lib.ListN.{length, drop, length-append}
+use Rattle.std.specs.Prelude.{Ok, Some}
 use Rattle.base.specs.Answers.{returned}
 use Rattle.policy.specs.Model.{Packet, Row, Table, extended, row_at, parent_of}
 use Rattle.policy.specs.Wellformed.{IsEntity}
@@ -28,7 +29,6 @@ use Rattle.calls.specs.Views.{witness_answer}
 use Rattle.mesh_call.specs.Calls.{mesh_of}
 use Rattle.analyser.specs.Calls.{witness_of, winning_row, list_of, list_written}
 use Rattle.analyser.specs.CallAnswers.{WinnerAnswers}
-use Rattle.analyser.specs.declared.Winner.TheVariants.{Row as RowCase}
 use Rattle.promises.specs.AddedRowPromises.{Lists, BothList, AnswersStand, AddedRows}
 use Rattle.analyser.proofs.Laws.Calls.{witness_verdict, winner_told, winner_row}
 use Rattle.analyser.proofs.Laws.Outputs.{list_told, list_wrote}
@@ -86,7 +86,7 @@ module _ (text longer : List ℕ) (t : Table) (added : List Row) (e : parse text
   mesh_kept : (i : ℕ) → i < length t.rows → mesh_of (parse longer) i ≡ mesh_of (parse text) i
   mesh_kept i h = same_answer longer i ∙ witness_kept i h ∙ sym (same_answer text i)
 
-  module _ (g : ℕ) (p : Probe) (i : ℕ) (won : WinnerAnswers (parse text) g p (RowCase i)) where
+  module _ (g : ℕ) (p : Probe) (i : ℕ) (won : WinnerAnswers (parse text) g p (Ok (Some i))) where
     abbrev a : ℕ
     a = p.source
 
@@ -99,7 +99,7 @@ module _ (text longer : List ℕ) (t : Table) (added : List Row) (e : parse text
     named_before : (g < length t.rows) × IsEntity t a × IsEntity t b
     named_before = winner_told (parse text) t e g a b q (winning_row i) (sym won)
 
-    winner_kept : WinnerAnswers (parse longer) g p (RowCase i)
+    winner_kept : WinnerAnswers (parse longer) g p (Ok (Some i))
     winner_kept =
         let x = named_before in
         let old = (winner_row (parse text) t e g a b q x.0 x.1 x.2 i).0 (sym won) in
@@ -110,12 +110,12 @@ module _ (text longer : List ℕ) (t : Table) (added : List Row) (e : parse text
         ∙ (old_rows_keep t added).winner (row_at t g) a b q i (sym (winner_group t g a b q) ∙ old)))
 
     winner_named_newly : (h : ℕ) → h < length (extended added t).rows → SameGroup (row_at (extended added t) h) (row_at t g)
-        → WinnerAnswers (parse longer) h p (RowCase i)
+        → WinnerAnswers (parse longer) h p (Ok (Some i))
     winner_named_newly h l s =
-        subst⁻¹ (λ x. WinnerAnswers x h p (RowCase i)) f
+        subst⁻¹ (λ x. WinnerAnswers x h p (Ok (Some i))) f
         (((winner_promise (table_read (extended added t))).named h g p l (inside g named_before.0)
-        (subst (SameGroup (row_at (extended added t) h)) (sym (row_extended t added g named_before.0)) s) (RowCase i)).1
-        (subst (λ x. WinnerAnswers x g p (RowCase i)) f winner_kept))
+        (subst (SameGroup (row_at (extended added t) h)) (sym (row_extended t added g named_before.0)) s) (Ok (Some i))).1
+        (subst (λ x. WinnerAnswers x g p (Ok (Some i))) f winner_kept))
 
 -- Kind 20 is none that may change.
 dead_stays : MayChange 20 → ⊥

@@ -5,6 +5,7 @@ use native.Mathlib.Omega.{arith}
 use mathlib.Core.Path.{◌≡◌, refl, sym, ◌∙◌}
 use mathlib.Core.List.{List}
 use lib.ListN.{length}
+use Rattle.std.specs.Prelude.{Ok, Err}
 use Rattle.base.specs.Answers.{Answer, returned, refused_by}
 use Rattle.policy.specs.Wellformed.{Wellformed}
 use Rattle.policy.specs.Views.{packet_of}
@@ -13,18 +14,15 @@ use Rattle.reader.specs.States.{Parsed}
 use Rattle.kinds.specs.Entries.{entries}
 use Rattle.covers.specs.Least.{SearchResult}
 use Rattle.listing.proofs.Laws.Puts.{length_bytes}
-use Rattle.calls.specs.Views.{witness_answer}
 use Rattle.calls.specs.declared.Witness.TheVariants.{Refused as WitnessRefused}
-use Rattle.calls.proofs.Laws.Cases.{witness_refused}
+use Rattle.calls.specs.Views.{refusal, witness_answer}
+use Rattle.calls.proofs.Laws.Cases.{answer_refused, witness_refused}
 use Rattle.mesh_call.proofs.Laws.Calls.{mesh_refused_text, mesh_missing}
-use Rattle.analyser.specs.Calls.{RowOrNobody}
-use Rattle.analyser.specs.Views.{check_answer, winner_answer, count_answer}
+use Rattle.analyser.specs.Calls.{RowOrNobody, outcome_of}
+use Rattle.analyser.specs.Views.{table_counts, check_answer, winner_answer, count_answer}
 use Rattle.analyser.specs.CallAnswers.{Only, SameAnswers}
-use Rattle.analyser.specs.declared.Checked.TheVariants.{Counts, Refused as CheckRefused}
-use Rattle.analyser.specs.declared.Winner.TheVariants.{Refused as WinnerRefused}
-use Rattle.analyser.specs.declared.Counted.TheVariants.{Count, Refused as CountRefused}
 use Rattle.analyser.proofs.Laws.Calls.{winner_no_row, winner_no_entity}
-use Rattle.analyser.proofs.Laws.Cases.{only, check_refused, check_counts, winner_refused, count_refused, count_told}
+use Rattle.analyser.proofs.Laws.Cases.{only, check_counts, count_told}
 use Rattle.analyser.proofs.Laws.Refused.{check_refused_text, line_refused_text, witness_refused_text, winner_refused_text, list_refused_text}
 use Rattle.analyser.proofs.Laws.Refused.{strike_refused_text, join_refused_text, prefixes_refused_text, check_accepted, line_missing, witness_missing}
 use Rattle.analyser.proofs.Laws.Outputs.{list_short, strike_short}
@@ -36,16 +34,16 @@ module _ {number line : ℕ} where
   pub refused_witness : {x : Answer SearchResult} → x ≡ refused_by number line → Only (λ r. witness_answer r ≡ x) (WitnessRefused number line)
   refused_witness e = only witness_answer (WitnessRefused number line) e refl (witness_refused number line)
 
-  pub refused_winner : {x : Answer RowOrNobody} → x ≡ refused_by number line → Only (λ r. winner_answer r ≡ x) (WinnerRefused number line)
-  refused_winner e = only winner_answer (WinnerRefused number line) e refl (winner_refused number line)
+  pub refused_winner : {x : Answer RowOrNobody} → x ≡ refused_by number line → Only (λ r. winner_answer r ≡ x) (Err (refusal number line))
+  refused_winner e = only winner_answer (Err (refusal number line)) e refl (answer_refused outcome_of number line)
 
   -- and, of one that writes, the output is known too
   pub refused_count : {x : Answer ℕ} {after out : List ℕ} → (x ≡ refused_by number line) × (after ≡ out)
-      → Only (λ r. count_answer r ≡ x) (CountRefused number line) × (after ≡ out)
-  refused_count e = (only count_answer (CountRefused number line) e.0 refl (count_refused number line), e.1)
+      → Only (λ r. count_answer r ≡ x) (Err (refusal number line)) × (after ≡ out)
+  refused_count e = (only count_answer (Err (refusal number line)) e.0 refl (answer_refused (λ (m : ℕ). m) number line), e.1)
 
-pub told_count : {n : ℕ} {x : Answer ℕ} {after out : List ℕ} → (x ≡ returned n) × (after ≡ out) → Only (λ r. count_answer r ≡ x) (Count n) × (after ≡ out)
-told_count {n} e = (only count_answer (Count n) e.0 refl (count_told n), e.1)
+pub told_count : {n : ℕ} {x : Answer ℕ} {after out : List ℕ} → (x ≡ returned n) × (after ≡ out) → Only (λ r. count_answer r ≡ x) (Ok n) × (after ≡ out)
+told_count {n} e = (only count_answer (Ok n) e.0 refl (count_told n), e.1)
 
 -- ---- calls with one answer admit the same
 
@@ -58,7 +56,7 @@ pub refused_text : (number at : ℕ) → RefusedText number at
 refused_text number at =
     record {
       every = λ conditions value. refl;
-      check = only check_answer (CheckRefused number at) (check_refused_text number at) refl (check_refused number at);
+      check = only check_answer (Err (refusal number at)) (check_refused_text number at) refl (answer_refused table_counts number at);
       line = line_refused_text number at;
       witness = λ k. refused_witness (witness_refused_text number at k);
       mesh = λ k. refused_witness (mesh_refused_text number at k);
@@ -76,7 +74,7 @@ accepted_text r well =
     let m = length t.filters in
     let k = length t.rows in
     record {
-      check = only check_answer (Counts n m k) (check_accepted r) refl (check_counts n m k);
+      check = only check_answer (Ok (record { entities = n; filters = m; rows = k })) (check_accepted r) refl (check_counts (record { entities = n; filters = m; rows = k }));
       parents = table_tree t well;
       no_row = λ k h. (
         line_missing r k h,

@@ -7,15 +7,13 @@ use mathlib.Core.Path.{◌≡◌, refl, sym, ap, ◌∙◌}
 use mathlib.Core.Logic.{◌⊎◌, inl, inr}
 use mathlib.Core.List.{List}
 use lib.ListN.{length, get_or}
+use Rattle.std.specs.Prelude.{Option, Some, None, Result, Ok}
 use Rattle.base.specs.Answers.{returned}
 use Rattle.base.proofs.Laws.Decides.{decided, decides_and, decides_ltb}
 use Rattle.policy.specs.Model.{Packet, Table, row_at}
 use Rattle.policy.specs.Wellformed.{Wellformed}
-use Rattle.policy.specs.Views.{packet_of}
-use Rattle.policy.specs.declared.selector.Packet.{Packet as PacketStruct}
+use Rattle.policy.specs.Views.{PacketStruct, packet_of}
 use Rattle.relations.specs.Groups.{SameGroup, Wins, Dead, winner}
-use Rattle.relations.specs.declared.group.Outcome.{Outcome}
-use Rattle.relations.specs.declared.group.Outcome.TheVariants.{Won, Nobody}
 use Rattle.relations.proofs.Laws.Groups.{group_wins, wins_group, winner_wins, winner_nobody, winner_named}
 use Rattle.reader.specs.States.{Parsed, parse}
 use Rattle.reader.proofs.Laws.Wellformed.{accepted_wellformed}
@@ -35,8 +33,7 @@ use Rattle.calls.proofs.Laws.Cases.{witness_dead, witness_packet}
 use Rattle.analyser.specs.Calls.{outcome_of, winner_of}
 use Rattle.analyser.specs.Views.{winner_answer}
 use Rattle.analyser.specs.CallAnswers.{WitnessAnswers}
-use Rattle.analyser.specs.declared.Winner.{Winner}
-use Rattle.analyser.specs.declared.Winner.TheVariants.{Row as RowCase, Nobody as NobodyCase}
+use Rattle.frames.specs.declared.refusals.Refusal.{Refusal}
 use Rattle.analyser.proofs.Laws.Calls.{witness_verdict, winner_no_entity, winner_found, winner_row, winner_none}
 use Rattle.analyser.proofs.Laws.Cases.{winner_a_row, winner_nobody as winner_nobody_case}
 use Rattle.analyser.proofs.Laws.Outputs.{strike_whole}
@@ -71,16 +68,16 @@ witness_promise r well = record {
 -- ---- striking
 
 -- What `SameWinner` says of two winners: the one that won before is kept, the one that wins now is it, and the other way round.
-won_kept : (t : Table) (o u : Outcome) → SameWinner (kept t) o u → (i : ℕ) → o ≡ Won i
-    → (k : ℕ) × (k < length (kept t)) × (get_or (kept t) k 0 ≡ i) × (u ≡ Won k)
-won_kept t (Won j) (Won k) s i e = let q : j ≡ i = cc in (k, s.0, s.1 ∙ q, refl)
-won_kept t (Won j) Nobody s i e = absurd s
-won_kept t Nobody u s i e = let z : ◌≡◌ {A = ℕ} 0 1 = cc in absurd (omega arith)
+won_kept : (t : Table) (o u : Option ℕ) → SameWinner (kept t) o u → (i : ℕ) → o ≡ Some i
+    → (k : ℕ) × (k < length (kept t)) × (get_or (kept t) k 0 ≡ i) × (u ≡ Some k)
+won_kept t (Some j) (Some k) s i e = let q : j ≡ i = cc in (k, s.0, s.1 ∙ q, refl)
+won_kept t (Some j) None s i e = absurd s
+won_kept t None u s i e = let z : ◌≡◌ {A = ℕ} 0 1 = cc in absurd (omega arith)
 
-wins_kept : (t : Table) (o u : Outcome) → SameWinner (kept t) o u → (k : ℕ) → u ≡ Won k → o ≡ Won (get_or (kept t) k 0)
-wins_kept t (Won i) (Won j) s k e = let q : j ≡ k = cc in ap Won (sym s.1 ∙ ap (λ (m : ℕ). get_or (kept t) m 0) q)
-wins_kept t Nobody (Won j) s k e = absurd s
-wins_kept t o Nobody s k e = let z : ◌≡◌ {A = ℕ} 0 1 = cc in absurd (omega arith)
+wins_kept : (t : Table) (o u : Option ℕ) → SameWinner (kept t) o u → (k : ℕ) → u ≡ Some k → o ≡ Some (get_or (kept t) k 0)
+wins_kept t (Some i) (Some j) s k e = let q : j ≡ k = cc in ap Some (sym s.1 ∙ ap (λ (m : ℕ). get_or (kept t) m 0) q)
+wins_kept t None (Some j) s k e = absurd s
+wins_kept t o None s k e = let z : ◌≡◌ {A = ℕ} 0 1 = cc in absurd (omega arith)
 
 -- Kept rows at two places are different.
 kept_once : (t : Table) (j k : ℕ) → j < length (kept t) → k < length (kept t) → get_or (kept t) j 0 ≡ get_or (kept t) k 0 → j ≡ k
@@ -109,7 +106,7 @@ strike_promise text r e =
             λ w. group_wins t g a b p (get_or (kept t) k 0) (wins_kept t _ _ same k (wins_group (struck t) g a b p k w)),
             λ w.
                 let m = won_kept t _ _ same (get_or (kept t) k 0) (wins_group t g a b p (get_or (kept t) k 0) w) in
-                group_wins (struck t) g a b p k (m.3 ∙ ap Won (kept_once t m.0 k m.1 h m.2)),
+                group_wins (struck t) g a b p k (m.3 ∙ ap Some (kept_once t m.0 k m.1 h m.2)),
           );
       winner_kept = λ g a b p i x y w. let m = won_kept t _ _ (keeps.winners g a b p x y) i (wins_group t g a b p i w) in (m.0, m.1, m.2);
     }
@@ -117,9 +114,9 @@ strike_promise text r e =
 -- ---- Winner
 
 -- An outcome is told as a row or as nobody.
-told_case : (r : Winner) (o : Outcome) → winner_answer r ≡ returned (outcome_of o) → ((i : ℕ) × (r ≡ RowCase i)) ⊎ (r ≡ NobodyCase)
-told_case r (Won i) a = inl (i, winner_a_row i r a)
-told_case r Nobody a = inr (winner_nobody_case r a)
+told_case : (r : Result (Option ℕ) Refusal) (o : Option ℕ) → winner_answer r ≡ returned (outcome_of o) → ((i : ℕ) × (r ≡ Ok (Some i))) ⊎ (r ≡ Ok None)
+told_case r (Some i) a = inl (i, winner_a_row i r a)
+told_case r None a = inr (winner_nobody_case r a)
 
 pub winner_promise : (r : Parsed) → WinnerPromise r
 winner_promise r = record {

@@ -7,7 +7,7 @@ use mathlib.Core.Logic.{inl, inr}
 use mathlib.Core.List.{List, [], ◌∷◌, ◌++◌, append_assoc}
 use Prim.Native.Nat.{ℕ}
 use native.Mathlib.Omega.{arith}
-use Rattle.base.specs.Checks.{Check, or_else}
+use Rattle.base.specs.Checks.{or_else}
 use Rattle.base.proofs.Laws.Checks.{Rising, Faults, Breaks, faults_as}
 use Rattle.base.proofs.Laws.Decides.{not_holds}
 use Rattle.hexlines.specs.Lines.{is_line, bytes_of}
@@ -20,7 +20,7 @@ use Rattle.frames.proofs.Laws.Claims.{nothing_faulty}
 use Rattle.frames.proofs.Laws.Growing.{Growing, growing_nothing, few_so_far}
 use Rattle.frames.proofs.Laws.Kinds.{lawful}
 use Rattle.reader.specs.Frames.{Frame, a_frame, no_frame}
-use Rattle.reader.specs.States.{checks, grown}
+use Rattle.reader.specs.States.{checks, line_checks, grown}
 use Rattle.reader.specs.Rules.{frames_so_far, frames_of}
 use Rattle.reader.specs.Faults.{Begins, read_frames, judged_of, Fault, not_line, no_form, no_place, bad_content}
 use Rattle.reader.proofs.Laws.Forms.{is_frame, form_decides}
@@ -65,16 +65,13 @@ module _ (before : List Frame) (p : Progress) (r : Reached before p) where
 
   -- ---- the conditions of a line
 
-  abbrev pub line_checks : List ℕ → List Check
-  line_checks l = or_else (is_line l) no_line ∷ checks p (line_frame l)
-
   module _ (l : List ℕ) where
     frame_rising : (f : Frame) → Rising no_line (checks p f)
     unfolding checks
     frame_rising (a_frame k v) = (omega arith, ((lawful k).numbered p.table v).0)
     frame_rising no_frame = omega arith
 
-    pub line_rising : Rising 0 (line_checks l)
+    pub line_rising : Rising 0 (line_checks p l)
     line_rising = (omega arith, frame_rising (line_frame l))
 
     frame_faults : (f : Frame) → line_frame l ≡ f → Faults (Fault before l) (checks p f)
@@ -88,7 +85,7 @@ module _ (before : List Frame) (p : Progress) (r : Reached before p) where
         content n h = bad_content n (rw (r.read, e) h)
     frame_faults no_frame e = ((λ b. no_form (λ h. (form_decides (bytes_of l)).no (ap is_frame e) h)), tt)
 
-    pub line_faults : Faults (Fault before l) (line_checks l)
+    pub line_faults : Faults (Fault before l) (line_checks p l)
     line_faults = ((λ b. not_line ((no_line_decides l).yes (rw b))), frame_faults (line_frame l) refl)
 
     frame_breaks : (f : Frame) → line_frame l ≡ f → (n : ℕ) → Fault before l n → Breaks n (or_else (is_line l) no_line ∷ checks p f)
@@ -109,5 +106,5 @@ module _ (before : List Frame) (p : Progress) (r : Reached before p) where
         let h' : ContentFault p.table (judged_of no_frame) m = rw (r.read, e) at h in
         absurd (nothing_faulty p.table m h')
 
-    pub line_breaks : (n : ℕ) → Fault before l n → Breaks n (line_checks l)
+    pub line_breaks : (n : ℕ) → Fault before l n → Breaks n (line_checks p l)
     line_breaks n h = frame_breaks (line_frame l) refl n h

@@ -1,8 +1,9 @@
 -- Laws of the lines of a text:
---   length_feed, length_other, length_end: how long the line is that goes on at a place, as a loop goes through it
---   length_within, end_within: no line is longer than the text
---   lines_ended, rest_ended: the first line of what follows a place, where a line feed ends it, and what follows it
---   lines_unended, rest_unended: where none ends it, there is no line
+--   length_first: the first line is as long as there are characters before the first line feed
+--   length_within: no line is longer than the text
+--   lines_ended, rest_ended: the first line, where a line feed ends it, and what follows it
+--   lines_unended, rest_alone: where none ends it, there is no line, and the text is what stands after the last line feed
+--   rest_all: what follows a place
 --   start_next, start_none: where the line at a place starts
 --   start_within, lines_from, line_at: it starts in the text, at the lines from that place on
 -- Assumes nothing.
@@ -15,24 +16,24 @@ use native.Mathlib.Omega.{arith}
 use native.Mathlib.Numerals.{add-one}
 use borrow.Author.Tests.{eq-eqb, ne_eqb}
 use lib.Dec.{eqb}
-use lib.ListN.{length, get_or, take, drop, length-drop, drop_of_length-le}
-use lib.Seq.{drop-cons, drop-drop, drop-length, get_or-drop, append_snoc}
+use Rattle.std.specs.List.{AllWithin, HoldsAt}
+use Rattle.std.specs.Option.{MatchOption, unwrap_or}
+use Rattle.std.proofs.Common.{Option}
+use Rattle.std.proofs.lemmas.Iterator.{index_from_first}
+use lib.ListN.{length, get_or, take, drop, length-drop}
+use lib.Seq.{drop-drop, drop-length, get_or-drop, take_all, append_snoc}
 use Rattle.base.specs.Truths.{pick}
 use Rattle.reader.specs.Lines.{line_feed, lines_from, rest_from, lines_of, rest_of, line_length, line_start}
 
--- ---- the line that goes on at a place
-
-module _ (text : List ℕ) (i : ℕ) where
-  pub length_feed : i < length text → get_or text i 0 ≡ line_feed → line_length (drop i text) ≡ 0
-  length_feed h e = rw (drop-cons text i 0 h) (rw (eq-eqb (get_or text i 0) line_feed e))
-
-  pub length_other : i < length text → (get_or text i 0 ≡ line_feed → ⊥) → line_length (drop i text) ≡ suc (line_length (drop (i + 1) text))
-  length_other h n = rw (add-one i, drop-cons text i 0 h) (rw (ne_eqb (get_or text i 0) line_feed n))
-
-  pub length_end : length text ≤ i → line_length (drop i text) ≡ 0
-  length_end h = rw (drop_of_length-le text {i = i} h)
-
 -- ---- the first line of a text
+
+pub length_first : (text : List ℕ) (r : Option ℕ)
+    → MatchOption r (AllWithin (λ c. c ≡ line_feed → ⊥) text 0 (length text))
+    (λ i. (i < length text) × HoldsAt (λ c. c ≡ line_feed) text i × AllWithin (λ c. c ≡ line_feed → ⊥) text 0 i)
+    → line_length text ≡ unwrap_or r (length text)
+length_first text r h =
+    index_from_first line_length (λ c. c ≡ line_feed) (λ c. c ≡ line_feed → ⊥) refl (λ c l e. rw (eq-eqb c line_feed e))
+    (λ c l n. rw (ne_eqb c line_feed n) (omega arith)) text r h
 
 pub length_within : (text : List ℕ) → line_length text ≤ length text
 length_within [] = omega arith
@@ -71,37 +72,30 @@ unended_from line (c ∷ text) h =
           (x.0, x.1 ∙ append_snoc line c text)
     ]) h
 
--- At a place of the text: end is where its line ends.
-module _ (text : List ℕ) (start end : ℕ) (e : end ≡ start + line_length (drop start text)) where
-  pub end_within : start ≤ length text → end ≤ length text
-  end_within h = omega (arith, length_within (drop start text), length-drop start text)
-
-  further : drop (suc (line_length (drop start text))) (drop start text) ≡ drop (end + 1) text
-  further =
-      let q : start + suc (line_length (drop start text)) ≡ end + 1 = omega arith in
-      drop-drop (suc (line_length (drop start text))) start text ∙ ap (λ n. drop n text) q
-
+-- Where its line ends, in a line feed or at the text's end.
+module _ (text : List ℕ) (end : ℕ) (e : end ≡ line_length text) where
   module _ (h : end < length text) where
-    inside : line_length (drop start text) < length (drop start text)
-    inside = omega (arith, length-drop start text)
+    pub lines_ended : lines_of text ≡ take end text ∷ lines_of (drop (end + 1) text)
+    lines_ended = rw (add-one, e) (ended_from [] text (omega arith)).0
 
-    pub lines_ended : lines_of (drop start text) ≡ take (end - start) (drop start text) ∷ lines_of (drop (end + 1) text)
-    lines_ended =
-        let q : line_length (drop start text) ≡ end - start = omega arith in
-        (ended_from [] (drop start text) inside).0 ∙ rw (further, ← q) refl
+    pub rest_ended : rest_of text ≡ rest_of (drop (end + 1) text)
+    rest_ended = rw (add-one, e) (ended_from [] text (omega arith)).1
 
-    pub rest_ended : rest_of (drop start text) ≡ rest_of (drop (end + 1) text)
-    rest_ended = (ended_from [] (drop start text) inside).1 ∙ ap (λ l. rest_of l) further
+  pub lines_unended : length text ≤ end → lines_of text ≡ []
+  lines_unended h = (unended_from [] text (omega arith)).0
 
-  module _ (h : length text ≤ end) where
-    beyond : length (drop start text) ≤ line_length (drop start text)
-    beyond = omega (arith, length-drop start text)
+-- A text with no line is what stands after the last line feed.
+pub rest_alone : (text : List ℕ) → lines_of text ≡ [] → rest_of text ≡ text
+rest_alone text h = elim (dec_lt (line_length text) (length text)) [
+  | yes k ↦ let x = (ended_from [] text k).0 in absurd (cc)
+  | no k ↦ (unended_from [] text (omega arith)).1
+]
 
-    pub lines_unended : lines_of (drop start text) ≡ []
-    lines_unended = (unended_from [] (drop start text) beyond).0
+-- ---- what follows a place
 
-    pub rest_unended : rest_of (drop start text) ≡ drop start text
-    rest_unended = (unended_from [] (drop start text) beyond).1
+-- What the code takes for it.
+pub rest_all : (text : List ℕ) (n : ℕ) → take (length text - n) (drop n text) ≡ drop n text
+rest_all text n = take_all (length text - n) (drop n text) (omega (arith, length-drop n text))
 
 -- ---- the line at a place
 
@@ -126,21 +120,25 @@ start_unended (c ∷ text) n h =
     ]) h
 
 -- One line further on, from a place of the text whose line ends at end.
-module _ (text : List ℕ) (start end : ℕ) (e : end ≡ start + line_length (drop start text)) (n : ℕ) (some : n ≡ 0 → ⊥) where
-  pub start_next : end < length text → start + line_start (drop start text) n ≡ end + 1 + line_start (drop (end + 1) text) (n - 1)
+module _ (text : List ℕ) (start end : ℕ) (e : end ≡ start + line_length (drop start text)) (n m : ℕ) (some : n ≡ m + 1) where
+  more : line_start (drop start text) n ≡ line_start (drop start text) (suc m)
+  more = ap (λ k. line_start (drop start text) k) (some ∙ add-one m)
+
+  further : drop (suc (line_length (drop start text))) (drop start text) ≡ drop (end + 1) text
+  further =
+      let q : start + suc (line_length (drop start text)) ≡ end + 1 = omega arith in
+      drop-drop (suc (line_length (drop start text))) start text ∙ ap (λ k. drop k text) q
+
+  pub start_next : end < length text → start + line_start (drop start text) n ≡ end + 1 + line_start (drop (end + 1) text) m
   start_next h =
-      let q : n ≡ suc (n - 1) = omega arith in
-      let x = start_ended (drop start text) (n - 1) (omega (arith, length-drop start text)) in
-      let y = ap (λ l. line_start l (n - 1)) (further text start end e) in
-      let z = ap (λ m. line_start (drop start text) m) q in
-      omega arith
+      let x = start_ended (drop start text) m (omega (arith, length-drop start text)) in
+      let y = ap (λ l. line_start l m) further in
+      omega (arith, more)
 
   pub start_none : start ≤ length text → length text ≤ end → start + line_start (drop start text) n ≡ length text
   start_none k h =
-      let q : n ≡ suc (n - 1) = omega arith in
-      let x = start_unended (drop start text) (n - 1) (omega (arith, length-drop start text)) in
-      let z = ap (λ m. line_start (drop start text) m) q in
-      omega (arith, length-drop start text)
+      let x = start_unended (drop start text) m (omega (arith, length-drop start text)) in
+      omega (arith, more, length-drop start text)
 
 pub start_within : (text : List ℕ) (n : ℕ) → line_start text n ≤ length text
 start_within text zero = omega arith

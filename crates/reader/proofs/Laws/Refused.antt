@@ -15,7 +15,7 @@ use lib.Dec.{eqb}
 use lib.ListN.{length}
 use Rattle.base.specs.Answers.{Answer, returned, refused_by}
 use Rattle.base.specs.Checks.{refusal}
-use Rattle.base.proofs.Laws.Checks.{refusal_holds, refusal_broken, refusal_none, refusal_least, refusal_fault}
+use Rattle.base.proofs.Laws.Checks.{refusal_none, refusal_least, refusal_fault}
 use Rattle.base.proofs.Laws.Lists.{length_none}
 use Rattle.hexlines.specs.Lines.{is_line}
 use Rattle.policy.specs.Model.{Coefficients, Table}
@@ -25,57 +25,41 @@ use Rattle.frames.specs.Kinds.{of_entity, of_floor}
 use Rattle.frames.proofs.Laws.Growing.{before_floor, after_floor}
 use Rattle.reader.specs.Lines.{lines_of, rest_of}
 use Rattle.reader.specs.Frames.{Frame, a_frame}
-use Rattle.reader.specs.States.{Parsed, table_read, reading, refused, checks, grown, take_frame, step, run, finish, parse}
+use Rattle.reader.specs.States.{Parsed, table_read, reading, checks, line_checks, grown, step, run, finish, parse}
 use Rattle.reader.specs.Rules.{cap_frames}
 use Rattle.reader.specs.Faults.{Fault, EndFault, feed_missing, floor_missing, FaultFrom, FaultAt, FirstFault}
 use Rattle.reader.proofs.Laws.Runs.{pick_either}
-use Rattle.reader.proofs.Laws.States.{faultless, faulty, byte_in, run_refused}
+use Rattle.reader.proofs.Laws.States.{step_taken, step_refused, byte_in, run_refused}
 use Rattle.reader.proofs.Laws.Wellformed.{in_range, growing_frame}
 use Rattle.reader.proofs.Laws.Sequence.{early_frames, floor_there, not_among}
 use Rattle.reader.proofs.Laws.Rules.{line_frame, so_far_taken}
-use Rattle.reader.proofs.Laws.Faults.{Reached, reached_nothing, read_more, line_checks, line_rising, line_faults, line_breaks}
+use Rattle.reader.proofs.Laws.Faults.{Reached, reached_nothing, read_more, line_rising, line_faults, line_breaks}
 
 -- ---- one line
 
 module _ (before : List Frame) (p : Progress) (r : Reached before p) (l : List ℕ) where
   abbrev number : ℕ
-  number = refusal (line_checks before p r l)
+  number = refusal (line_checks p l)
 
-  -- What a line does, by its least fault.
-  step_taken : (n : ℕ) → number ≡ 0 → (step (reading n p) l ≡ reading (suc n) (grown p (line_frame l))) × Reached (before ++ (line_frame l ∷ [])) (grown p (line_frame l))
-  unfolding step
-  step_taken n z =
-      let k = refusal_none (is_line l) no_line (checks p (line_frame l)) (λ e. omega arith) z in (
-        rw k.0 (faultless n p (line_frame l) k.1),
-        record {
-          growing = growing_frame p (line_frame l) (in_range l) r.growing k.1;
-          frames = so_far_taken p (line_frame l) r.growing.sequenced k.1 ∙ ap (λ fs. fs ++ (line_frame l ∷ [])) r.frames;
-          read = read_more nothing before (line_frame l) ∙ ap (λ q. grown q (line_frame l)) r.read;
-        },
-      )
-
-  step_refused : (n : ℕ) → (number ≡ 0 → ⊥) → step (reading n p) l ≡ refused number (suc n)
-  unfolding step
-  step_refused n z = go (is_line l) refl
-    where
-      go : (b : Bool) → is_line l ≡ b → step (reading n p) l ≡ refused number (suc n)
-      go true e =
-          let h = refusal_holds (is_line l) no_line (checks p (line_frame l)) e in
-          let first : step (reading n p) l ≡ take_frame n p (line_frame l) = rw e in
-          first ∙ faulty n p (line_frame l) number (sym h) z
-      go false e =
-          let first : step (reading n p) l ≡ refused no_line (suc n) = rw e in
-          first ∙ ap (λ k. refused k (suc n)) (sym (refusal_broken (is_line l) no_line (checks p (line_frame l)) e))
+  -- What has been read with a line that has no fault.
+  reached_more : number ≡ 0 → Reached (before ++ (line_frame l ∷ [])) (grown p (line_frame l))
+  reached_more z =
+      let k = refusal_none (is_line l) no_line (checks p (line_frame l)) (λ e. omega arith) z in
+      record {
+        growing = growing_frame p (line_frame l) (in_range l) r.growing k.1;
+        frames = so_far_taken p (line_frame l) r.growing.sequenced k.1 ∙ ap (λ fs. fs ++ (line_frame l ∷ [])) r.frames;
+        read = read_more nothing before (line_frame l) ∙ ap (λ q. grown q (line_frame l)) r.read;
+      }
 
   -- It has no fault, or the least is its number.
   line_faultless : number ≡ 0 → (n : ℕ) → Fault before l n → ⊥
-  line_faultless z n h = omega (arith, refusal_least 0 n (line_checks before p r l) (line_rising before p r l) (line_breaks before p r l n h))
+  line_faultless z n h = omega (arith, refusal_least 0 n (line_checks p l) (line_rising before p r l) (line_breaks before p r l n h))
 
   line_fault : (number ≡ 0 → ⊥) → Fault before l number
-  line_fault z = refusal_fault (Fault before l) (line_checks before p r l) (line_faults before p r l) z
+  line_fault z = refusal_fault (Fault before l) (line_checks p l) (line_faults before p r l) z
 
   line_least : (n : ℕ) → Fault before l n → number ≤ n
-  line_least n h = (refusal_least 0 n (line_checks before p r l) (line_rising before p r l) (line_breaks before p r l n h)).1
+  line_least n h = (refusal_least 0 n (line_checks p l) (line_rising before p r l) (line_breaks before p r l n h)).1
 
 -- ---- the text's end
 
@@ -162,13 +146,12 @@ says (l ∷ lines) before p r rest m = go (eqb (number before p r l) 0) refl (λ
         → Says before (l ∷ lines) rest m (finish (run (step (reading m p) l) lines) rest)
     go true e later =
         let z = eqb-true (number before p r l) 0 e in
-        let t = step_taken before p r l m z in
-        rw t.0
+        rw (step_taken m p l z)
         (says_more before l lines rest m (line_faultless before p r l z) (finish (run (reading (suc m) (grown p (line_frame l))) lines) rest)
-        (later (grown p (line_frame l)) t.1))
+        (later (grown p (line_frame l)) (reached_more before p r l z)))
     go false e later =
         let z = eqb-false (number before p r l) 0 e in
-        rw (step_refused before p r l m z, run_refused (number before p r l) (suc m) lines) (
+        rw (step_refused m p l (number before p r l) refl z, run_refused (number before p r l) (suc m) lines) (
           0,
           omega arith,
           record {

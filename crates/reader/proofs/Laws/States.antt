@@ -1,10 +1,11 @@
 -- Laws of the reader's states:
---   faultless, faulty, no_frame: what a frame does, by whether a condition is broken
+--   faultless, faulty: what a frame does, by whether a condition is broken
+--   step_taken, step_refused: the same of a line
 --   fit_of, fitted, frame_misfit, frame_content, frame_grown: the conditions of a frame of any kind, and what it adds
 --   kind_own, kind_cases, byte_in: which kind a kind byte is, and that of a frame
 --   run_refused: a refusal stays
 -- Assumes nothing.
-use mathlib.Core.Path.{◌≡◌, refl}
+use mathlib.Core.Path.{◌≡◌, refl, sym, ap, ◌∙◌}
 use mathlib.Core.Logic.{◌⊎◌, inl, inr}
 use mathlib.Core.Bool.{Bool, true, false}
 use mathlib.Core.List.{List, [], ◌∷◌}
@@ -13,13 +14,14 @@ use native.Mathlib.Decide.{ℕ_discrete}
 use native.Mathlib.Omega.{arith}
 use borrow.Author.Tests.{ne_eqb}
 use Rattle.base.specs.Checks.{refusal}
-use Rattle.base.proofs.Laws.Checks.{refusal_first, refusal_broken}
-use Rattle.frames.specs.Refusals.{wrong_form}
+use Rattle.base.proofs.Laws.Checks.{refusal_first, refusal_holds, refusal_broken, refusal_none}
+use Rattle.hexlines.specs.Lines.{is_line, bytes_of}
+use Rattle.frames.specs.Refusals.{no_line, wrong_form}
 use Rattle.frames.specs.Progress.{Progress, misfit_of}
 use Rattle.frames.specs.Kinds.{FrameName, of_entity, of_cap, of_floor, of_filter, of_row, describe, frame_names}
 use Rattle.frames.proofs.Laws.Parts.{misfit_none}
-use Rattle.reader.specs.Frames.{Frame, a_frame, no_frame, frame_in, frame_among, frame_of_kind}
-use Rattle.reader.specs.States.{reading, refused, checks, grown, take_frame, step, run}
+use Rattle.reader.specs.Frames.{Frame, a_frame, no_frame, frame_in, frame_among, frame_of_kind, frame_of}
+use Rattle.reader.specs.States.{reading, refused, checks, line_checks, grown, take_frame, step, run}
 
 -- ---- a frame
 
@@ -33,9 +35,25 @@ module _ (n : ℕ) (p : Progress) (f : Frame) where
   faulty m h z = rw (h, ne_eqb m 0 z)
 
 -- A line that is no frame.
-pub no_frame_lem : (n : ℕ) (p : Progress) → take_frame n p no_frame ≡ refused wrong_form (suc n)
+pub no_frame_lem : (p : Progress) → refusal (checks p no_frame) ≡ wrong_form
 unfolding checks
-no_frame_lem n p = faulty n p no_frame wrong_form (refusal_broken false wrong_form [] refl) (λ z. omega arith)
+no_frame_lem p = refusal_broken false wrong_form [] refl
+
+-- A line.
+module _ (n : ℕ) (p : Progress) (l : List ℕ) where
+  pub step_taken : refusal (line_checks p l) ≡ 0 → step (reading n p) l ≡ reading (suc n) (grown p (frame_of (bytes_of l)))
+  unfolding step
+  step_taken z =
+      let k = refusal_none (is_line l) no_line (checks p (frame_of (bytes_of l))) (λ e. omega arith) z in
+      rw k.0 (faultless n p (frame_of (bytes_of l)) k.1)
+
+  pub step_refused : (m : ℕ) → refusal (line_checks p l) ≡ m → (m ≡ 0 → ⊥) → step (reading n p) l ≡ refused m (suc n)
+  unfolding step
+  step_refused m e z = go (is_line l) refl
+    where
+      go : (b : Bool) → is_line l ≡ b → step (reading n p) l ≡ refused m (suc n)
+      go true h = rw h (faulty n p (frame_of (bytes_of l)) m (sym (refusal_holds (is_line l) no_line (checks p (frame_of (bytes_of l))) h) ∙ e) z)
+      go false h = rw h (ap (λ k. refused k (suc n)) (sym (refusal_broken (is_line l) no_line (checks p (frame_of (bytes_of l))) h) ∙ e))
 
 -- ---- a frame of some kind, from the bytes after its kind byte
 

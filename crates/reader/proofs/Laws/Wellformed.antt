@@ -2,6 +2,7 @@
 --   InFrame, in_range: the numbers of a line's frame are in range
 --   kept, never_none: a frame that is not refused has its place in the sequence and keeps its rules, and is a frame
 --   growing_frame: what has been read keeps its rules with each frame that is not refused
+--   one_line: such a frame is one line
 --   Read, run_read: after n lines the table has n, and they keep the rules
 --   accepted_wellformed: an accepted table is well-formed
 --   refused_line: a refusal's number is from 1 to the last of a text's, and its line is below 256
@@ -69,7 +70,7 @@ module _ (p : Progress) where
   growing_frame no_frame i g h = absurd (never_none h)
 
   -- It is one line.
-  one_line : (f : Frame) → refusal (checks p f) ≡ 0 → lines_read (grown p f) ≡ suc (lines_read p)
+  pub one_line : (f : Frame) → refusal (checks p f) ≡ 0 → lines_read (grown p f) ≡ suc (lines_read p)
   unfolding grown
   one_line (a_frame k v) h = (lawful k).one_line p v (kept k v h).0
   one_line no_frame h = absurd (never_none h)

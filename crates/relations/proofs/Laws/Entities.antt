@@ -15,7 +15,7 @@ use Rattle.base.specs.Truths.{Decides}
 use Rattle.relations.specs.Relations.{OneOfFive}
 use Rattle.relations.specs.Entities.{Tree, upward, ancestors, root_of, AtOrAbove, at_or_above, EntitiesStand, entity_relation}
 use Rattle.base.proofs.Laws.Decides.{decides_eqb, decides_holds, decided}
-use Rattle.base.proofs.Laws.Members.{among_decides, among_nil, among_cons}
+use Rattle.base.proofs.Laws.Members.{among_decides}
 use Rattle.relations.proofs.Laws.Relations.{Exclusive, found, only}
 
 -- ---- upward, a step at a time
@@ -145,18 +145,10 @@ module _ (up : ℕ → ℕ) (tree : Tree up) where
       below : (f : ℕ) → (up f ≡ no_parent → ⊥) → (AtOrAbove up e (up f) → root_of up e ≡ root_of up (up f)) → AtOrAbove up e f → root_of up e ≡ root_of up f
       below f r h m = elim (above_cases e f m) [ inl q ↦ ap (root_of up) q | inr q ↦ h q.1 ∙ sym (root_next f r) ]
 
-  -- ---- the test of ⪰, a step at a time
+  -- ---- the test of ⪰
 
   pub test_here : (e f : ℕ) → e ≡ f → at_or_above up e f ≡ true
   test_here e f q = decides_holds (at_or_above up e f) (at_or_above_decides up e f) (rw q (above_self up f))
-
-  pub test_top : (e f : ℕ) → (e ≡ f → ⊥) → up f ≡ no_parent → at_or_above up e f ≡ false
-  unfolding at_or_above
-  test_top e f n r = rw (ancestors_root up f r, among_cons, among_nil, ne_eqb e f n)
-
-  pub test_next : (e f : ℕ) → (e ≡ f → ⊥) → (up f ≡ no_parent → ⊥) → at_or_above up e f ≡ at_or_above up e (up f)
-  unfolding at_or_above
-  test_next e f n r = rw (ancestors_next f r, among_cons, ne_eqb e f n)
 
   -- ---- the five relations
 

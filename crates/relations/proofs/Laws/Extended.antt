@@ -6,9 +6,9 @@ use mathlib.Core.Logic.{◌↔◌}
 use mathlib.Core.List.{List, ◌++◌}
 use native.Mathlib.Omega.{arith}
 use lib.ListN.{length, length-append, get_or-append}
+use Rattle.std.specs.Prelude.{Some}
 use Rattle.policy.specs.Model.{Packet, Row, Table, extended, no_row, row_at, parent_of}
 use Rattle.relations.specs.Groups.{SameGroup, Wins, Dead, winner_from}
-use Rattle.relations.specs.declared.group.Outcome.TheVariants.{Won}
 use Rattle.relations.proofs.Laws.Groups.{group_wins, wins_group}
 use Rattle.relations.proofs.Laws.Renumbered.{wins_renumbered}
 
@@ -28,8 +28,8 @@ module _ (t : Table) (added : List Row) where
     λ d a b p x y w. d a b p x y ((wins_extended i a b p h).0 w),
   )
 
-  pub winner_extended : (g : Row) (a b : ℕ) (p : Packet) (i : ℕ) → winner_from (parent_of t) g a b p 0 t.rows ≡ Won i
-      → winner_from (parent_of t) g a b p 0 (t.rows ++ added) ≡ Won i
+  pub winner_extended : (g : Row) (a b : ℕ) (p : Packet) (i : ℕ) → winner_from (parent_of t) g a b p 0 t.rows ≡ Some i
+      → winner_from (parent_of t) g a b p 0 (t.rows ++ added) ≡ Some i
   winner_extended g a b p i e =
       let c = group_wins t g a b p i e in
       let h = c.1.row in

@@ -11,6 +11,7 @@ use native.Mathlib.Omega.{arith}
 use native.Mathlib.Nat.{add-zero}
 use lib.Dec.{eqb}
 use lib.ListN.{length, get_or}
+use Rattle.std.specs.Prelude.{Option, Some, None}
 use Rattle.policy.specs.Model.{Packet, Row, Table, no_row, row_at, parent_of}
 use Rattle.policy.specs.Wellformed.{IsEntity}
 use Rattle.base.specs.Truths.{Decides}
@@ -18,8 +19,6 @@ use Rattle.base.specs.Lists.{same}
 use Rattle.relations.specs.Entities.{Tree, at_or_above}
 use Rattle.relations.specs.Selectors.{Holds, holds}
 use Rattle.relations.specs.Groups.{SameGroup, same_group, Matches, matches, Wins, Dead, Hides, winner_from, winner_in, winner}
-use Rattle.relations.specs.declared.group.Outcome.{Outcome}
-use Rattle.relations.specs.declared.group.Outcome.TheVariants.{Won, Nobody}
 use Rattle.base.proofs.Laws.Decides.{decides_as, decides_eqb, decides_and, decides_holds, decides_fails}
 use Rattle.base.proofs.Laws.Members.{same_decides}
 use Rattle.base.proofs.Laws.Firsts.{NoneBelow, FirstBelow, first_or_none}
@@ -88,37 +87,37 @@ module _ (up : ℕ → ℕ) (g : Row) (a b : ℕ) (p : Packet) where
   abbrev pub candidate_at : List Row → ℕ → Bool
   candidate_at rows i = candidate (get_or rows i no_row)
 
-  first_from : (k : ℕ) (rows : List Row) (i : ℕ) → FirstBelow (candidate_at rows) (length rows) i → winner_from up g a b p k rows ≡ Won (k + i)
+  first_from : (k : ℕ) (rows : List Row) (i : ℕ) → FirstBelow (candidate_at rows) (length rows) i → winner_from up g a b p k rows ≡ Some (k + i)
   unfolding winner_from
   first_from k [] i h = absurd (omega (arith, h.inside))
   first_from k (r ∷ rows) zero h = rw (h.passes, winner_from, add-zero)
   first_from k (r ∷ rows) (suc i) h =
       rw (h.first 0 (omega arith), winner_from)
       (first_from (suc k) rows i (record { inside = omega (arith, h.inside); passes = h.passes; first = λ j l. h.first (suc j) (omega arith) })
-      ∙ ap Won (omega arith))
+      ∙ ap Some (omega arith))
 
-  none_from : (k : ℕ) (rows : List Row) → NoneBelow (candidate_at rows) (length rows) → winner_from up g a b p k rows ≡ Nobody
+  none_from : (k : ℕ) (rows : List Row) → NoneBelow (candidate_at rows) (length rows) → winner_from up g a b p k rows ≡ None
   unfolding winner_from
   none_from k [] h = refl
   none_from k (r ∷ rows) h =
       rw (h 0 (omega arith), winner_from) (none_from (suc k) rows (λ j l. h (suc j) (omega arith)))
 
   module _ (rows : List Row) where
-    pub winner_first : (i : ℕ) → FirstBelow (candidate_at rows) (length rows) i → winner_from up g a b p 0 rows ≡ Won i
-    winner_first i h = first_from 0 rows i h ∙ ap Won (omega arith)
+    pub winner_first : (i : ℕ) → FirstBelow (candidate_at rows) (length rows) i → winner_from up g a b p 0 rows ≡ Some i
+    winner_first i h = first_from 0 rows i h ∙ ap Some (omega arith)
 
-    pub winner_absent : NoneBelow (candidate_at rows) (length rows) → winner_from up g a b p 0 rows ≡ Nobody
+    pub winner_absent : NoneBelow (candidate_at rows) (length rows) → winner_from up g a b p 0 rows ≡ None
     winner_absent h = none_from 0 rows h
 
     -- What the answer says.
-    pub first_won : (i : ℕ) → winner_from up g a b p 0 rows ≡ Won i → FirstBelow (candidate_at rows) (length rows) i
+    pub first_won : (i : ℕ) → winner_from up g a b p 0 rows ≡ Some i → FirstBelow (candidate_at rows) (length rows) i
     first_won i e =
         elim (first_or_none (candidate_at rows) (length rows)) [
           | inl h ↦ let w = winner_first h.0 h.1 in let q : h.0 ≡ i = cc in rw (← q) h.1
           | inr h ↦ let w = winner_absent h in let z : ◌≡◌ {A = ℕ} 0 1 = cc in absurd (omega arith)
         ]
 
-    pub none_won : winner_from up g a b p 0 rows ≡ Nobody → NoneBelow (candidate_at rows) (length rows)
+    pub none_won : winner_from up g a b p 0 rows ≡ None → NoneBelow (candidate_at rows) (length rows)
     none_won e =
         elim (first_or_none (candidate_at rows) (length rows)) [
           | inl h ↦ let w = winner_first h.0 h.1 in let z : ◌≡◌ {A = ℕ} 0 1 = cc in absurd (omega arith)
@@ -131,7 +130,7 @@ module _ (t : Table) (g : Row) (a b : ℕ) (p : Packet) where
   claims : (i : ℕ) → Decides (candidate_at (parent_of t) g a b p t.rows i) (SameGroup (row_at t i) g × Matches (parent_of t) (row_at t i) a b p)
   claims i = candidate_decides (parent_of t) g a b p (row_at t i)
 
-  pub group_wins : (i : ℕ) → winner_from (parent_of t) g a b p 0 t.rows ≡ Won i → SameGroup (row_at t i) g × Wins t i a b p
+  pub group_wins : (i : ℕ) → winner_from (parent_of t) g a b p 0 t.rows ≡ Some i → SameGroup (row_at t i) g × Wins t i a b p
   group_wins i e =
       let r = first_won (parent_of t) g a b p t.rows i e in
       let c = (claims i).yes r.passes in (
@@ -143,7 +142,7 @@ module _ (t : Table) (g : Row) (a b : ℕ) (p : Packet) where
         },
       )
 
-  pub wins_group : (i : ℕ) → SameGroup (row_at t i) g × Wins t i a b p → winner_from (parent_of t) g a b p 0 t.rows ≡ Won i
+  pub wins_group : (i : ℕ) → SameGroup (row_at t i) g × Wins t i a b p → winner_from (parent_of t) g a b p 0 t.rows ≡ Some i
   wins_group i h =
       let w = h.1 in
       winner_first (parent_of t) g a b p t.rows i (record {
@@ -158,10 +157,10 @@ module _ (t : Table) (g : Row) (a b : ℕ) (p : Packet) where
   abbrev Unmatched : Type 0
   Unmatched = (i : ℕ) → i < length t.rows → SameGroup (row_at t i) g → Matches (parent_of t) (row_at t i) a b p → ⊥
 
-  pub group_nobody : winner_from (parent_of t) g a b p 0 t.rows ≡ Nobody → Unmatched
+  pub group_nobody : winner_from (parent_of t) g a b p 0 t.rows ≡ None → Unmatched
   group_nobody e i l s m = (claims i).no (none_won (parent_of t) g a b p t.rows e i l) (s, m)
 
-  nobody_group : Unmatched → winner_from (parent_of t) g a b p 0 t.rows ≡ Nobody
+  nobody_group : Unmatched → winner_from (parent_of t) g a b p 0 t.rows ≡ None
   nobody_group h =
       winner_absent (parent_of t) g a b p t.rows
       (λ j l. decides_fails (candidate_at (parent_of t) g a b p t.rows j) (claims j) (λ c. h j l c.0 c.1))
@@ -174,12 +173,12 @@ module _ (t : Table) (g a b : ℕ) (p : Packet) where
   winner_group = refl
 
   -- Row i is the winner exactly when it is of the group and wins.
-  pub winner_wins : (i : ℕ) → (winner t g a b p ≡ Won i) ↔ (SameGroup (row_at t i) (row_at t g) × Wins t i a b p)
+  pub winner_wins : (i : ℕ) → (winner t g a b p ≡ Some i) ↔ (SameGroup (row_at t i) (row_at t g) × Wins t i a b p)
   unfolding winner_in
   winner_wins i = (group_wins t (row_at t g) a b p i, wins_group t (row_at t g) a b p i)
 
   -- Nobody wins exactly when no row of the group matches.
-  pub winner_nobody : (winner t g a b p ≡ Nobody)
+  pub winner_nobody : (winner t g a b p ≡ None)
       ↔ ((i : ℕ) → i < length t.rows → SameGroup (row_at t i) (row_at t g) → Matches (parent_of t) (row_at t i) a b p → ⊥)
   unfolding winner_in
   winner_nobody = (group_nobody t (row_at t g) a b p, nobody_group t (row_at t g) a b p)
@@ -188,11 +187,11 @@ module _ (t : Table) (g a b : ℕ) (p : Packet) where
 pub winner_named : (t : Table) (g h a b : ℕ) (p : Packet) → SameGroup (row_at t g) (row_at t h) → winner t g a b p ≡ winner t h a b p
 winner_named t g h a b p s = go (winner t g a b p) refl
   where
-    go : (o : Outcome) → winner t g a b p ≡ o → winner t g a b p ≡ winner t h a b p
-    go (Won i) e =
+    go : (o : Option ℕ) → winner t g a b p ≡ o → winner t g a b p ≡ winner t h a b p
+    go (Some i) e =
         let w = (winner_wins t g a b p i).0 e in
         e ∙ sym ((winner_wins t h a b p i).1 (group_trans w.0 s, w.1))
-    go Nobody e =
+    go None e =
         e
         ∙ sym
         ((winner_nobody t h a b p).1

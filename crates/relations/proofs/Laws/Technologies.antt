@@ -40,6 +40,9 @@ unfolding layer_of
 layer_none t (inl h) = rw h
 layer_none t (inr h) = get_or-eq_default (0 ∷ 2 ∷ 2 ∷ 3 ∷ 5 ∷ 5 ∷ 7 ∷ []) 0 h
 
+-- The layer of any number, by the range that it is in.
+pub ruleset layers_by_range = (layer_two, layer_five, layer_none)
+
 -- A technology has just the layer that `layer_of` gives it, where that is one.
 layer_numbered : (t l : ℕ) → HasLayer t l → (layer_of t ≡ l) × (l ≡ 0 → ⊥)
 unfolding layer_of

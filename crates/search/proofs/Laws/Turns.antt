@@ -137,7 +137,7 @@ module _ (n : ℕ) (s : Selector) (bs : List Selector) (few : n ≤ length s) (s
 
   both_none : (o t : SearchResult) → Right S bs o → Right (turned n S) (map (turned n) bs) t → (t ≡ none) ↔ (o ≡ none)
   both_none none none r q = (λ e. refl, λ e. refl)
-  both_none (found p) (found x) r q = (λ e. let z : ◌≡◌ {A = ℕ} 0 1 = cc in absurd (omega arith), λ e. let z : ◌≡◌ {A = ℕ} 0 1 = cc in absurd (omega arith))
+  both_none (found p) (found x) r q = (λ e. cc, λ e. cc)
   both_none (found p) none r q =
       let e = holds_length S p r.inside in
       absurd (r.unclaimed (claimed_back p (e ∙ S_length) (q (turned n p) (holds_turned n S p r.inside))))
@@ -192,7 +192,7 @@ search_unturned s bs = λ i. search (turned_zero s i) (all bs i)
 pub free_decides : {P : Type 0} (t : SearchResult) (p : Packet) → found p ≡ t → (t ≡ none) ↔ P → Decides false P
 free_decides t p e i = record {
   yes = λ q. absurd (true≢false (sym q));
-  no = λ q h. let d : found p ≡ none = e ∙ i.1 h in let z : ◌≡◌ {A = ℕ} 0 1 = cc in omega arith;
+  no = λ q h. let d : found p ≡ none = e ∙ i.1 h in cc;
 }
 
 pub covered_decides : {P : Type 0} (t : SearchResult) → none ≡ t → (t ≡ none) ↔ P → Decides true P

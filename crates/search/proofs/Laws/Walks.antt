@@ -4,12 +4,12 @@
 use Prim.Native.Nat.{ℕ, suc, ◌+◌, ◌-◌, ◌≤◌, ◌<◌, min, max}
 use mathlib.Core.Path.{◌≡◌, refl}
 use mathlib.Core.Bool.{Bool, true, false}
-use mathlib.Core.Logic.{◌⊎◌, inl, inr}
 use mathlib.Core.List.{[], ◌∷◌}
 use native.Mathlib.Decide.{dec_lt}
 use native.Mathlib.Omega.{arith}
-use borrow.Author.Tests.{ltb-true, ltb-false, eqb-false}
-use lib.Dec.{eqb, ltb}
+use borrow.Author.Tests.{ltb-true, ltb-false}
+use lib.Dec.{ltb}
+use Rattle.std.specs.Prelude.{Option, Some, None}
 use Rattle.base.specs.Truths.{pick}
 use Rattle.policy.specs.Model.{Range, Selector, Packet}
 use Rattle.relations.specs.Ranges.{Within}
@@ -42,13 +42,10 @@ pub record Walked (box : ℕ → Selector) (r : Range) (rs : Selector) (P K : �
   pub held : Held box r rs K n
 
 -- A field begins with no cover, or is done by one that is known.
-pub walked_start : (box : ℕ → Selector) (r : Range) (rs : Selector) {P K : ℕ → Type 0} (c : ℕ) → ((k : ℕ) → K k → P k)
-    → (c ≡ 0) ⊎ ((q : Packet) → Holds (risen r ∷ rs) q → HeldBy box K q) → Walked box r rs P K (opening c r.low)
-walked_start box r rs {P} {K} c f h = record { part = f; held = go (eqb c 0) refl }
-  where
-    go : (t : Bool) → eqb c 0 ≡ t → Held box r rs K (pick t (comes r.low) end)
-    go true e = (record { low = omega arith; high = omega arith }, λ x q a b. absurd (omega arith))
-    go false e = elim h [ inl z ↦ absurd (eqb-false c 0 e z) | inr d ↦ d ]
+pub walked_start : (box : ℕ → Selector) (r : Range) (rs : Selector) {P K : ℕ → Type 0} (known : Option ℕ) → ((k : ℕ) → K k → P k)
+    → ((c : ℕ) → known ≡ Some c → (q : Packet) → Holds (risen r ∷ rs) q → HeldBy box K q) → Walked box r rs P K (opening known r.low)
+walked_start box r rs None f h = record { part = f; held = (record { low = omega arith; high = omega arith }, λ x q a b. absurd (omega arith)) }
+walked_start box r rs (Some c) f h = record { part = f; held = h c refl }
 
 -- The boxes are a first field and the rest, and so is the row.
 module _ (box rest : ℕ → Selector) (head : ℕ → Range) (split : (k : ℕ) → box k ≡ head k ∷ rest k) (r : Range) (rs : Selector) where

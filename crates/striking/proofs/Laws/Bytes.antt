@@ -1,123 +1,87 @@
--- Laws of the struck text byte by byte. One byte more, as a loop goes through a text; and that for an accepted text, whose rows are its
--- last lines, the bytes that are kept are the struck text, which is so no longer than the text.
+-- Laws of the struck text line by line. For an accepted text, whose rows are its last lines, the lines that are kept are those of the struck text,
+-- which is so no longer than the text.
 -- Assumes nothing.
 use Prim.Native.Nat.{ℕ, zero, suc, ◌+◌, ◌-◌, ◌≤◌, ◌<◌}
 use mathlib.Core.Path.{◌≡◌, refl, sym, ap, ◌∙◌}
 use mathlib.Core.Bool.{Bool, true, false, not, ◌||◌}
-use mathlib.Core.List.{List, [], ◌∷◌, ◌++◌, map, append-nil}
+use mathlib.Core.List.{List, [], ◌∷◌, ◌++◌, map}
 use native.Mathlib.Nat.{add-zero}
-use native.Mathlib.Numerals.{add-one}
 use native.Mathlib.Omega.{arith}
-use borrow.Author.Tests.{ne_eqb, lt-ltb, le-ltb, lt-leb}
-use lib.Dec.{eqb, ltb}
-use lib.ListN.{length, get_or, take, drop, drop_of_length-le, take-append-drop}
-use lib.Seq.{drop-cons, length-take-le}
-use Rattle.base.specs.Truths.{pick, bit}
+use borrow.Author.Tests.{lt-ltb, le-ltb, lt-leb}
+use lib.Dec.{ltb}
+use lib.ListN.{length, get_or, set, take, drop, drop_of_length-le, take-append-drop, length-append}
+use Rattle.std.specs.List.{sum_by}
+use Rattle.std.proofs.lemmas.List.Recursion.{is_sum_by}
+use lib.Seq.{sets, lt-length-sets, drop-cons, length-take-le}
+use borrow.Rule.Slice.PartMut.{put_mid}
+use Rattle.base.proofs.Laws.Lists.{sets_append}
+use Rattle.policy.proofs.Laws.Runs.{part_stored}
+use Rattle.base.specs.Truths.{pick}
 use Rattle.policy.specs.Limits.{most_rows}
 use Rattle.policy.specs.Model.{Table, lines_before}
 use Rattle.reader.specs.Lines.{line_feed, lines_of, rest_of, text_of}
 use Rattle.base.specs.Answers.{returned}
 use Rattle.reader.specs.States.{table_read, parse}
-use Rattle.reader.proofs.Laws.Rows.{accepted_rows, accepted_lines}
-use Rattle.reader.proofs.Laws.Texts.{NotFeed, NoFeed, AllNoFeed, text_cut, lines_clean}
+use Rattle.reader.proofs.Laws.Rows.{accepted_lines}
+use Rattle.reader.proofs.Laws.Texts.{text_cut}
 use Rattle.reader.proofs.Laws.Wellformed.{accepted_wellformed}
-use Rattle.base.proofs.Laws.Lists.{length_none}
-use Rattle.base.proofs.Laws.Passing.{bit_le}
 use Rattle.verdicts.specs.Verdicts.{dead}
 use Rattle.base.specs.Lists.{numbers_from}
 use Rattle.striking.specs.Striking.{kept}
 use Rattle.striking.specs.Texts.{struck_text}
-use Rattle.striking.specs.Bytes.{DeadRows, keeps, next_place, kept_bytes}
+use Rattle.striking.specs.Lines.{DeadRows, keeps, lines_kept}
 use Rattle.base.proofs.Laws.Numbers.{number_next, numbers_end}
 
-pub next_most : (n c : ℕ) → next_place n c ≤ suc n
-next_most n c = go (eqb c line_feed)
-  where
-    go : (b : Bool) → pick b (suc n) n ≤ suc n
-    go true = omega arith
-    go false = omega arith
+-- ---- how long lines are
 
--- A list that has one thing more, or not.
-pub length_picked : (b : Bool) (c : ℕ) (l : List ℕ) → length (pick b (c ∷ l) l) ≡ bit b + length l
-length_picked true c l = omega arith
-length_picked false c l = omega arith
+-- Each has its line feed besides.
+pub text_long : (ls : List (List ℕ)) → length (text_of ls) ≡ sum_by (λ l. length l + 1) ls
+text_long = is_sum_by (λ ls. length (text_of ls)) (λ l. length l + 1) refl (λ l ls. let e = length-append l (line_feed ∷ text_of ls) in omega arith)
+
+few_lines : (ls : List (List ℕ)) → length ls ≤ length (text_of ls)
+few_lines [] = omega arith
+few_lines (l ∷ ls) = let h = few_lines ls in omega (arith, length-append l (line_feed ∷ text_of ls))
+
+-- A text has its lines, and so no more lines than bytes.
+lines_within : (text : List ℕ) → length (text_of (lines_of text)) ≤ length text
+lines_within text = let e = ap length (text_cut text) in omega (arith, length-append (text_of (lines_of text)) (rest_of text))
+
+pub lines_counted : (text : List ℕ) → length (lines_of text) ≤ length text
+lines_counted text = let e = few_lines (lines_of text) in let h = lines_within text in omega arith
+
+-- A line that is copied to a part of an output: there is room for its line feed after it, and both stand there as if they were stored.
+module _ (out part line : List ℕ) (n k : ℕ) (e : part ≡ line) (f : k ≡ length line) (h : n + length line + 1 ≤ length out) where
+  copied : put_mid n k out part ≡ sets out n line
+  copied = part_stored n k out part line e f (omega arith)
+
+  pub feed_within : n + length line < length (put_mid n k out part)
+  feed_within = rw copied (lt-length-sets out n line (omega arith))
+
+  pub line_stored : set (put_mid n k out part) (n + length line) line_feed ≡ sets out n (line ++ (line_feed ∷ []))
+  line_stored = ap (λ l. set l (n + length line) line_feed) copied ∙ sym (sets_append out n line (line_feed ∷ []))
 
 module _ (keep : ℕ → Bool) where
-  -- ---- one byte more
-
-  -- A byte is kept, or it goes, as its line does.
-  byte : (n c : ℕ) (text : List ℕ)
-      → kept_bytes keep n (c ∷ text) ≡ pick (keep n) (c ∷ kept_bytes keep (next_place n c) text) (kept_bytes keep (next_place n c) text)
-  unfolding kept_bytes
-  byte n c text = go (keep n) refl
-    where
-      go : (b : Bool) → keep n ≡ b
-          → kept_bytes keep n (c ∷ text) ≡ pick b (c ∷ kept_bytes keep (next_place n c) text) (kept_bytes keep (next_place n c) text)
-      go true e = rw (e, kept_bytes)
-      go false e = rw (e, kept_bytes)
-
-  bytes_end : (n : ℕ) → kept_bytes keep n [] ≡ []
-  unfolding kept_bytes
-  bytes_end n = refl
-
-  module _ (text : List ℕ) (n i : ℕ) where
-    -- The byte at i, and what is kept after it, of which the first line is at place m.
-    pub at_next : i < length text → (m : ℕ) → m ≡ next_place n (get_or text i 0)
-        → kept_bytes keep n (drop i text) ≡ pick (keep n) (get_or text i 0 ∷ kept_bytes keep m (drop (i + 1) text)) (kept_bytes keep m (drop (i + 1) text))
-    at_next h m e = rw (e, add-one i, drop-cons text i 0 h) (byte n (get_or text i 0) (drop (suc i) text))
-
-    pub at_end : length text ≤ i → kept_bytes keep n (drop i text) ≡ []
-    at_end h = rw (drop_of_length-le text {i = i} h) (bytes_end n)
-
-  -- No more bytes are kept than there are.
-  bytes_shorter : (n : ℕ) (text : List ℕ) → length (kept_bytes keep n text) ≤ length text
-  bytes_shorter n [] = rw (bytes_end n) (omega arith)
-  bytes_shorter n (c ∷ text) =
-      let r = bytes_shorter (next_place n c) text in
-      let l = length_picked (keep n) c (kept_bytes keep (next_place n c) text) in
-      let b = bit_le (keep n) in
-      rw (byte n c text) (omega arith)
-
-  -- ---- whole lines
-
-  same_place : (n c : ℕ) → NotFeed c → next_place n c ≡ n
-  same_place n c h = ap (λ (b : Bool). pick b (suc n) n) (ne_eqb c line_feed h)
-
-  whole_line : (n : ℕ) (l text : List ℕ) → NoFeed l
-      → kept_bytes keep n (l ++ (line_feed ∷ text)) ≡ pick (keep n) (l ++ (line_feed ∷ kept_bytes keep (suc n) text)) (kept_bytes keep (suc n) text)
-  whole_line n [] text h = byte n line_feed text
-  whole_line n (c ∷ l) text h =
-      byte n c (l ++ (line_feed ∷ text))
-      ∙ rw (same_place n c h.0, whole_line n l text h.1) (again (keep n) (l ++ (line_feed ∷ kept_bytes keep (suc n) text)) (kept_bytes keep (suc n) text))
-    where
-      again : (b : Bool) (x y : List ℕ) → pick b (c ∷ pick b x y) (pick b x y) ≡ pick b (c ∷ x) y
-      again true x y = refl
-      again false x y = refl
-
-  -- The lines that are kept, of some whose first is at place n.
-  abbrev lines_kept : ℕ → List (List ℕ) → List (List ℕ)
-  lines_kept n [] = []
-  lines_kept n (l ∷ ls) = pick (keep n) (l ∷ lines_kept (suc n) ls) (lines_kept (suc n) ls)
-
-  text_kept : (n : ℕ) (ls : List (List ℕ)) → AllNoFeed ls → kept_bytes keep n (text_of ls) ≡ text_of (lines_kept n ls)
-  text_kept n [] f = bytes_end n
-  text_kept n (l ∷ ls) f = whole_line n l (text_of ls) f.0 ∙ rw (text_kept (suc n) ls f.1) (told (keep n) (lines_kept (suc n) ls))
-    where
-      told : (b : Bool) (r : List (List ℕ)) → pick b (l ++ (line_feed ∷ text_of r)) (text_of r) ≡ text_of (pick b (l ∷ r) r)
-      told true r = refl
-      told false r = refl
+  -- No more lines are kept than there are.
+  kept_shorter : (n : ℕ) (ls : List (List ℕ)) → length (text_of (lines_kept keep n ls)) ≤ length (text_of ls)
+  kept_shorter n [] = omega arith
+  kept_shorter n (l ∷ ls) =
+      let h = kept_shorter (suc n) ls in
+      elim (keep n) as (λ b. length (text_of (pick b (l ∷ lines_kept keep (suc n) ls) (lines_kept keep (suc n) ls))) ≤ length (text_of (l ∷ ls))) [
+        | true ↦ omega (arith, length-append l (line_feed ∷ text_of (lines_kept keep (suc n) ls)), length-append l (line_feed ∷ text_of ls))
+        | false ↦ omega (arith, length-append l (line_feed ∷ text_of ls))
+      ]
 
   -- Lines that are all kept, and others after them.
   all_kept : (n : ℕ) (a b : List (List ℕ)) → ((k : ℕ) → k < length a → keep (n + k) ≡ true)
-      → lines_kept n (a ++ b) ≡ a ++ lines_kept (n + length a) b
-  all_kept n [] b h = ap (λ (m : ℕ). lines_kept m b) (sym (add-zero n))
+      → lines_kept keep n (a ++ b) ≡ a ++ lines_kept keep (n + length a) b
+  all_kept n [] b h = ap (λ (m : ℕ). lines_kept keep m b) (sym (add-zero n))
   all_kept n (l ∷ a) b h =
       let z : n + 0 ≡ n = omega arith in
       let s : suc n + length a ≡ n + suc (length a) = omega arith in
       rw (ap keep (sym z) ∙ h 0 (omega arith))
       (ap (λ (r : List (List ℕ)). l ∷ r)
       (all_kept (suc n) a b (λ k c. let e : suc n + k ≡ n + suc k = omega arith in ap keep e ∙ h (suc k) (omega arith))
-      ∙ ap (λ (m : ℕ). a ++ lines_kept m b) s))
+      ∙ ap (λ (m : ℕ). a ++ lines_kept keep m b) s))
 
   -- The last lines, of which m rows' from row k on; those of rows that pass are kept.
   module _ (alive : ℕ → Bool) (rows : ℕ) (ls : List (List ℕ)) (others : ℕ) (h : (i : ℕ) → i < rows → keep (others + i) ≡ alive i) where
@@ -125,11 +89,11 @@ module _ (keep : ℕ → Bool) where
     line_at i = get_or ls (others + i) []
 
     rows_kept : (m k : ℕ) → k + m ≡ rows → others + (k + m) ≡ length ls
-        → lines_kept (others + k) (drop (others + k) ls) ≡ map line_at (numbers_from alive m k)
+        → lines_kept keep (others + k) (drop (others + k) ls) ≡ map line_at (numbers_from alive m k)
     rows_kept zero k r e = rw (drop_of_length-le ls {i = others + k} (omega arith), numbers_end alive k)
     rows_kept (suc m) k r e =
         let s : suc (others + k) ≡ others + suc k = omega arith in
-        let further = ap (λ (j : ℕ). lines_kept j (drop j ls)) s ∙ rows_kept m (suc k) (omega arith) (omega arith) in
+        let further = ap (λ (j : ℕ). lines_kept keep j (drop j ls)) s ∙ rows_kept m (suc k) (omega arith) (omega arith) in
         rw (drop-cons ls (others + k) [] (omega arith))
         (rw (h k (omega arith), further, number_next alive m k) (told (alive k) (numbers_from alive m (suc k))))
       where
@@ -152,15 +116,11 @@ module _ (text : List ℕ) (t : Table) (e : parse text ≡ returned (table_read 
   -- by any test that keeps the other lines and those of rows that are not dead
   module _ (keep : ℕ → Bool) (early : (n : ℕ) → n < others → keep n ≡ true)
       (late : (i : ℕ) → i < length t.rows → keep (others + i) ≡ not (dead t i)) where
-    struck_kept : kept_bytes keep 0 text ≡ struck_text text t
+    struck_kept : text_of (lines_kept keep 0 ls) ≡ struck_text text t
     unfolding struck_text
     struck_kept =
-        let r : rest_of text ≡ [] = length_none (rest_of text) (accepted_rows text t e).ended in
         let a = length-take-le others ls (let l = long in omega arith) in
-        let cut = sym (text_cut text) ∙ ap (λ (q : List ℕ). text_of ls ++ q) r ∙ append-nil (text_of ls) in
-        ap (kept_bytes keep 0) cut
-        ∙ text_kept keep 0 ls (lines_clean text)
-        ∙ ap text_of
+        ap text_of
         (ap (lines_kept keep 0) (sym (take-append-drop others ls))
         ∙ all_kept keep 0 (take others ls) (drop others ls) (λ k h. early (0 + k) (omega arith))
         ∙ ap (λ (q : List (List ℕ)). take others ls ++ q) (last a))
@@ -175,7 +135,7 @@ module _ (text : List ℕ) (t : Table) (e : parse text ≡ returned (table_read 
             ∙ rows_kept keep (λ i. not (dead t i)) (length t.rows) ls others late (length t.rows) 0 (omega arith) (let l = long in omega arith)
 
   -- by the flags of the dead rows
-  pub struck_bytes : (flags : List Bool) → DeadRows t flags → kept_bytes (keeps flags others) 0 text ≡ struck_text text t
+  pub struck_bytes : (flags : List Bool) → DeadRows t flags → text_of (lines_kept (keeps flags others) 0 ls) ≡ struck_text text t
   struck_bytes flags d = struck_kept (keeps flags others) (λ n h. rw (lt-ltb n others h)) flagged
     where
       flagged : (i : ℕ) → i < length t.rows → keeps flags others (others + i) ≡ not (dead t i)
@@ -189,7 +149,9 @@ module _ (text : List ℕ) (t : Table) (e : parse text ≡ returned (table_read 
   spares n = ltb n others || not (dead t (n - others))
 
   pub struck_shorter : length (struck_text text t) ≤ length text
-  struck_shorter = rw (sym (struck_kept spares (λ n h. rw (lt-ltb n others h)) late)) (bytes_shorter spares 0 text)
+  struck_shorter =
+      let h = lines_within text in
+      rw (sym (struck_kept spares (λ n h. rw (lt-ltb n others h)) late)) (let k = kept_shorter spares 0 ls in omega arith)
     where
       late : (i : ℕ) → i < length t.rows → spares (others + i) ≡ not (dead t i)
       late i h =

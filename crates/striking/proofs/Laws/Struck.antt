@@ -7,11 +7,10 @@ use mathlib.Core.Bool.{not}
 use native.Mathlib.Decide.{dec_lt}
 use native.Mathlib.Omega.{arith}
 use lib.ListN.{length, get_or}
+use Rattle.std.specs.Prelude.{Option, Some, None}
 use Rattle.policy.specs.Model.{Packet, Row, Table, row_at, parent_of}
 use Rattle.policy.specs.Wellformed.{IsEntity, Wellformed}
 use Rattle.relations.specs.Groups.{SameGroup, Matches, Wins, Dead, winner_from}
-use Rattle.relations.specs.declared.group.Outcome.{Outcome}
-use Rattle.relations.specs.declared.group.Outcome.TheVariants.{Won, Nobody}
 use Rattle.base.proofs.Laws.Decides.{decides_holds}
 use Rattle.relations.proofs.Laws.Groups.{group_sym, group_trans, group_wins, group_nobody}
 use Rattle.relations.proofs.Laws.Renumbered.{wins_renumbered}
@@ -51,7 +50,7 @@ module _ (t : Table) (w : Wellformed t) where
 
   module _ (g : Row) (a b : ℕ) (p : Packet) (x : IsEntity t a) (y : IsEntity t b) where
     -- The row that wins is not dead, so it is kept, and wins.
-    stays : (i : ℕ) → winner_from (parent_of t) g a b p 0 t.rows ≡ Won i
+    stays : (i : ℕ) → winner_from (parent_of t) g a b p 0 t.rows ≡ Some i
         → (m : ℕ) × (m < length (kept t)) × (get_or (kept t) m 0 ≡ i) × SameGroup (row_at (struck t) m) g × Wins (struck t) m a b p
     stays i e =
         let u = group_wins t g a b p i e in
@@ -64,23 +63,23 @@ module _ (t : Table) (w : Wellformed t) where
           wins_struck t a b p c.0 c.1 (subst⁻¹ (λ n. Wins t n a b p) c.2 u.1),
         )
 
-    same : (o n : Outcome) → winner_from (parent_of t) g a b p 0 t.rows ≡ o
+    same : (o n : Option ℕ) → winner_from (parent_of t) g a b p 0 t.rows ≡ o
         → winner_from (parent_of (struck t)) g a b p 0 (struck t).rows ≡ n → SameWinner (kept t) o n
-    same (Won i) (Won k) e f =
+    same (Some i) (Some k) e f =
         let c = stays i e in
         let v = group_wins (struck t) g a b p k f in
         let q : c.0 ≡ k = wins_once (struck t) c.0 k a b p (group_trans c.3 (group_sym v.0)) c.4 v.1 in
         (subst (λ n. n < length (kept t)) q c.1, subst (λ n. get_or (kept t) n 0 ≡ i) q c.2)
-    same (Won i) Nobody e f =
+    same (Some i) None e f =
         let c = stays i e in
         group_nobody (struck t) g a b p f c.0 c.4.row c.3 c.4.matches
-    same Nobody (Won k) e f =
+    same None (Some k) e f =
         let v = group_wins (struck t) g a b p k f in
         let h : k < length (kept t) = omega (arith, v.1.row, length_struck t) in
         group_nobody t g a b p e (get_or (kept t) k 0) (kept_row t k h)
         (subst (λ r. SameGroup r g) (row_struck t k h) v.0)
         (matches_kept t a b p k h v.1.matches)
-    same Nobody Nobody e f = tt
+    same None None e f = tt
 
     struck_winners : SameWinner (kept t) (winner_from (parent_of t) g a b p 0 t.rows) (winner_from (parent_of (struck t)) g a b p 0 (struck t).rows)
     struck_winners =

@@ -67,7 +67,7 @@ module _ (t : Table) (w : Wellformed t) (i : ℕ) (row : i < length t.rows) wher
 
 is_none_decides : (a : SearchResult) → Decides (is_none a) (a ≡ none)
 is_none_decides none = decides_true refl
-is_none_decides (found p) = decides_false (λ e. let z : ◌≡◌ {A = ℕ} 0 1 = cc in omega arith)
+is_none_decides (found p) = decides_false (λ e. cc)
 
 pub dead_decides : (t : Table) → Wellformed t → (i : ℕ) → i < length t.rows → Decides (dead t i) (Dead t i)
 dead_decides t w i h = let v = (verdicts t w i h).dead in decides_as v.0 v.1 (is_none_decides (verdict_on t i))

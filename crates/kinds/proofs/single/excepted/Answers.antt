@@ -1,0 +1,13 @@
+-- `any` on the numbers of the filters says what `some` does.
+use borrow.Author.Rules.{rules}
+use Rattle.policy.specs.Views.{row_of, filter_in}
+use Rattle.kinds.specs.Tests.{excepts, excepted}
+use Rattle.kinds.proofs.Laws.Found.{some_from_any}
+use Rattle.kinds.proofs.single.excepted.Goals as goal
+
+pub returns : goal.returns
+unfolding excepted
+returns c =
+    let t = c.args.t.now in
+    some_from_any (λ k. excepts (row_of c.args.r) c.args.root (filter_in t.filter_roots t.filter_actions t.bounds k)) c.args.count _ _ _
+    c.any.ensures.ran (λ x b q k. search rules)

@@ -1,0 +1,9 @@
+-- `strike` meets its contract: what is printed of the text, or that the input is too long. Assumes nothing.
+use Rattle.printing.proofs.Laws.Printed.{prints_other, strike_long, strike_text}
+use Rattle.printing.proofs.strike.Goals as goal
+
+pub returns-then-input-gt-INPUT : goal.returns-then-input-gt-INPUT
+returns-then-input-gt-INPUT c = prints_other (strike_long _ c.if-input-gt-INPUT.true) c.put.ensures
+
+pub returns : goal.returns
+returns c = prints_other (strike_text _ c.if-input-gt-INPUT.false) c.put_struck.ensures

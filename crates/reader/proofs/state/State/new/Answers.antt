@@ -1,0 +1,9 @@
+-- Nothing is counted, and no entity has a parent. Assumes nothing.
+use borrow.Author.Rules.{rules}
+use Rattle.base.proofs.Laws.Lists.{get_d_replicated}
+use Rattle.policy.specs.Limits.{most_entities}
+use Rattle.policy.specs.Model.{no_parent}
+use Rattle.reader.proofs.state.State.new.Goals as goal
+
+pub returns : goal.returns
+returns c = search (get_d_replicated most_entities no_parent, rules)

@@ -1,0 +1,2 @@
+-- What was read or written, and how much of it.
+pub mod Moved
