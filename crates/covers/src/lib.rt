@@ -24,15 +24,14 @@ pub struct Boxes {
 }
 
 // Whether q is of r's group and ⪰ it in source and destination.
+#[tactic(auto, unfolding(crate::specs::Covers::covers))]
 fn covers(parents: &PerEntity, r: Row, q: Row) -> bool
     requires { TwoEntities parents.now r.source r.destination }
     ensures { result ≡ covers_test (parent_in parents.now) (row_of r) (row_of q) }
 {
-    if group::same_group(q, r) {
-        return entity::at_or_above(parents, q.source, r.source)
-            & entity::at_or_above(parents, q.destination, r.destination);
-    }
-    false
+    group::same_group(q, r)
+        && entity::at_or_above(parents, q.source, r.source)
+        && entity::at_or_above(parents, q.destination, r.destination)
 }
 
 // The rows before i whose selectors cover row i.

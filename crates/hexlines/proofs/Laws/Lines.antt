@@ -12,9 +12,11 @@ use mathlib.Core.Logic.{◌⊎◌, inl, inr}
 use mathlib.Core.List.{List, [], ◌∷◌, Memᴰ}
 use Prim.Native.Nat.{ℕ, zero, suc, ◌+◌, ◌*◌, ◌/◌, ◌%◌, ◌<◌, ◌≤◌}
 use native.Mathlib.Omega.{arith}
+use native.Mathlib.Numerals.{add-one}
 use borrow.Author.Tests.{eqb-true}
 use lib.Dec.{eqb}
 use lib.ListN.{length, get_or, take, drop}
+use lib.Seq.{drop-cons}
 use Rattle.base.specs.Truths.{Decides}
 use Rattle.base.proofs.Laws.Decides.{decides_as, decides_eqb, decides_not, decides_not_and}
 use Rattle.base.proofs.Laws.Each.{one_fails}
@@ -65,6 +67,10 @@ bytes_of_take (a ∷ b ∷ l) (suc i) = rw (double_suc, bytes_of_take l i)
 -- A part of a line is a part of its bytes.
 pub bytes_of_part : (l : List ℕ) (i n : ℕ) → bytes_of (take (2 * n) (drop (2 * i) l)) ≡ take n (drop i (bytes_of l))
 bytes_of_part l i n = rw (bytes_of_take, bytes_of_drop)
+
+-- The characters from i on are digits if the first of them is one and those after it are.
+pub all_digits_next : (l : List ℕ) (i : ℕ) → i < length l → all_digits (drop i l) ≡ (is_digit (get_or l i 0) && all_digits (drop (i + 1) l))
+all_digits_next l i h = rw (add-one i, drop-cons l i 0 h)
 
 pub line_length_lem : (l : List ℕ) → is_line l ≡ true → 2 ≤ length l
 unfolding is_line
