@@ -18,6 +18,7 @@ ghost use Rattle.std.specs.Prelude.{◌≡◌, ◌≤◌, length, take, IfSome};
 use analyser::Counts;
 use calls::Witness;
 use frames::refusals::Refusal;
+use frames::widths::{ADDRESS, PORT, PROTOCOL};
 use policy::number::Number;
 use policy::selector::Packet;
 use printing::limits::PRINTED;
@@ -41,19 +42,42 @@ const JOINED: usize = 255;
 
 const PREFIXES: usize = 512;
 
+// How many bytes a packet's numbers have.
+const PACKET: usize = 2 * ADDRESS + 2 * PORT + PROTOCOL;
+
 // Room for a name, and for a file of questions.
 const BUFFER: usize = 4096;
 
 // Room for a table's text.
 const LARGE_BUFFER: usize = 65536;
 
-// Writes the text to standard output. A write that fails is passed over, here and in what follows.
+// Writes the text to standard output. A write that fails is passed over.
 fn put_text(rt: &HostRuntime, text: &[u8]) {
     let _ = rt.write_all(text);
 }
 
+// The digits of the bytes, two for each.
+fn put_digits(rt: &HostRuntime, bytes: &[u8])
+    requires { length bytes.now ≤ 512 }
+{
+    let mut digits = [0u8; 2 * PREFIXES];
+    hexlines::put(bytes, &mut digits, 0);
+    put_text(rt, &digits[..2 * bytes.len()]);
+}
+
+// A count or a row's number, at most 128.
+fn put_count(rt: &HostRuntime, n: usize) {
+    put_digits(rt, &[(n % 256) as u8]);
+}
+
+fn put_number_and_line(rt: &HostRuntime, r: Refusal) {
+    put_text(rt, b"!");
+    put_digits(rt, &[r.number, r.line]);
+}
+
 fn put_refusal(rt: &HostRuntime, r: Refusal) {
-    let _ = println!(rt; "!{:02X}{:02X}", r.number, r.line);
+    put_number_and_line(rt, r);
+    put_text(rt, b"\n");
 }
 
 // Prints the counts. Returns how many rows there are: 0 of a text that is refused.
@@ -66,7 +90,10 @@ fn put_check(rt: &HostRuntime, text: &[u8]) -> usize {
                 rows,
             },
         ) => {
-            let _ = println!(rt; "{entities:02X}{filters:02X}{rows:02X}");
+            put_count(rt, entities);
+            put_count(rt, filters);
+            put_count(rt, rows);
+            put_text(rt, b"\n");
             rows
         }
         Err(r) => {
@@ -88,14 +115,16 @@ fn put_list(rt: &HostRuntime, text: &[u8]) {
     }
 }
 
-// The digits of a packet's numbers, which are those of an accepted text.
+// The digits of a packet's numbers.
 fn put_packet(rt: &HostRuntime, p: Packet) {
-    let from = p.source_address.lower_word();
-    let to = p.destination_address.lower_word();
-    let from_port = p.source_port.lower_word();
-    let to_port = p.destination_port.lower_word();
-    let protocol = p.protocol.lower_word();
-    let _ = println!(rt; "{from:08X}{to:08X}{from_port:04X}{to_port:04X}{protocol:02X}");
+    let mut bytes = [0u8; PACKET];
+    p.source_address.put(ADDRESS, &mut bytes, 0);
+    p.destination_address.put(ADDRESS, &mut bytes, ADDRESS);
+    p.source_port.put(PORT, &mut bytes, 2 * ADDRESS);
+    p.destination_port.put(PORT, &mut bytes, 2 * ADDRESS + PORT);
+    p.protocol.put(PROTOCOL, &mut bytes, 2 * ADDRESS + 2 * PORT);
+    put_digits(rt, &bytes);
+    put_text(rt, b"\n");
 }
 
 // Witness's answer, or Mesh's.
@@ -142,7 +171,8 @@ fn put_winner(rt: &HostRuntime, text: &[u8], line: &[u8]) {
     };
     match analyser::winner_of(text, hexlines::u8_at(line, 0) as usize, probe) {
         Ok(Some(i)) => {
-            let _ = println!(rt; "{i:02X}");
+            put_count(rt, i);
+            put_text(rt, b"\n");
         }
         Ok(None) => put_text(rt, b"none\n"),
         Err(r) => put_refusal(rt, r),
@@ -151,10 +181,11 @@ fn put_winner(rt: &HostRuntime, text: &[u8], line: &[u8]) {
 
 // The count's digits, or the refusal; and a space.
 fn put_counted(rt: &HostRuntime, answer: Result<usize, Refusal>) {
-    let _ = match answer {
-        Ok(n) => print!(rt; "{n:02X} "),
-        Err(r) => print!(rt; "!{:02X}{:02X} ", r.number, r.line),
-    };
+    match answer {
+        Ok(n) => put_count(rt, n),
+        Err(r) => put_number_and_line(rt, r),
+    }
+    put_text(rt, b" ");
 }
 
 // Join's answer, if the line says a couple, and the output.
@@ -186,9 +217,7 @@ fn put_side(rt: &HostRuntime, text: &[u8], line: &[u8]) {
     let mut room = [b'.'; PREFIXES];
     let out = &mut room[..length];
     put_counted(rt, analyser::prefixes(text, row, side, out));
-    for b in out.iter() {
-        let _ = print!(rt; "{b:02X}");
-    }
+    put_digits(rt, out);
     put_text(rt, b"\n");
 }
 

@@ -1,15 +1,14 @@
 // Numbers of entities and of roots. The parents are those of the entities read so far, by number.
-ghost use Rattle.std.specs.Prelude.{◌≡◌};
-ghost use Rattle.frames.specs.Numbers.{is_entity, is_root, all_roots};
+ghost use Rattle.std.specs.Prelude.{◌≡◌, ltb};
+ghost use Rattle.frames.specs.Numbers.{is_root, all_roots};
 
 use policy::limits::NO_PARENT;
 
-// Whether e is an entity's number.
-#[tactic(auto, unfolding(crate::specs::Numbers::is_entity))]
-pub fn is_entity(parents: &[u8], e: u8) -> bool
-    ensures { result ≡ is_entity parents.now e }
+// Whether e is an entity's number, of so many entities.
+pub fn is_entity(count: usize, e: u8) -> bool
+    ensures { result ≡ ltb e count }
 {
-    (e as usize) < parents.len()
+    (e as usize) < count
 }
 
 // Whether e is a root's number.

@@ -97,8 +97,8 @@ fn has_numbers(parents: &[u8], r: Row) -> bool
 {
     let n = r.gateway_count();
     numbers::is_root(parents, r.holder)
-        && numbers::is_entity(parents, r.source)
-        && numbers::is_entity(parents, r.destination)
+        && numbers::is_entity(parents.len(), r.source)
+        && numbers::is_entity(parents.len(), r.destination)
         && r.technology as usize <= TECHNOLOGIES
         && numbers::all_roots(parents, &r.gateways[..n])
 }

@@ -22,7 +22,7 @@ use relations::selector;
 pub type PairMarks = [u32; ROWS * ROWS];
 
 // The kinds that are marked, as numbers: those of each row alone, and those of each two rows and each two filters.
-#[derive(Drop)]
+#[derive(Clone, Copy)]
 pub struct Marks {
     pub own: [u32; ROWS],
     pub pairs: PairMarks,

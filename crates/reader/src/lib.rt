@@ -37,10 +37,12 @@ fn judge(text: &[u8]) -> Result<State, Refusal>
     Err(state.refusal_by(Reason::OutOfSequence.number()))
 }
 
-// The table of a text that is accepted: what its state has, and the filters and rows of the lines after the floor's. No line is judged again.
-fn fill(text: &[u8], state: State) -> Table
+// Fills the table with that of a text that is accepted: what its state has, and the filters and rows of the lines after the floor's. No line is judged
+// again.
+// As it is: the table is lent, and not handed back, so that `read` holds it once.
+fn fill(text: &[u8], state: State, table: &mut Table)
     requires { Fillable text.now state }
-    ensures { Filled text.now state result }
+    ensures { Filled text.now state table.new }
 {
     let State {
         entities,
@@ -54,18 +56,15 @@ fn fill(text: &[u8], state: State) -> Table
         rows,
         ..
     } = state;
-    let mut table = Table {
-        entities,
-        parents,
-        layers,
-        masks,
-        capped,
-        caps,
-        floor,
-        filters,
-        rows,
-        ..Table::new()
-    };
+    table.entities = entities;
+    table.parents = parents;
+    table.layers = layers;
+    table.masks = masks;
+    table.capped = capped;
+    table.caps = caps;
+    table.floor = floor;
+    table.filters = filters;
+    table.rows = rows;
     let after_floor = Lines::starting_at(text, table::lines_before(entities, capped, 1, 0));
     for (n, line) in after_floor.enumerate() {
         let part = &line[2..];
@@ -86,7 +85,6 @@ fn fill(text: &[u8], state: State) -> Table
             );
         }
     }
-    table
 }
 
 // Reads a whole text: its table, or its refusal.
@@ -94,5 +92,7 @@ pub fn read(text: &[u8]) -> Result<Table, Refusal>
     ensures { Parses result (parse text.now) }
 {
     let state = judge(text)?;
-    Ok(fill(text, state))
+    let mut table = Table::new();
+    fill(text, state, &mut table);
+    Ok(table)
 }

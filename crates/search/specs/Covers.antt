@@ -1,6 +1,6 @@
 -- Covers: what a part of the search that finds nothing has learnt, a set of boxes.
 -- Assumes nothing.
-use Rattle.std.specs.Prelude.{ℕ, ◌+◌, ◌^◌, ◌≤◌, ◌≡◌, ◌⊎◌, List, [], ◌∷◌, map, eqb, ltb, get_or, Bool, true, false, Option, Some, None, MatchOption}
+use Rattle.std.specs.Prelude.{ℕ, ◌+◌, ◌^◌, ◌≤◌, ◌≡◌, ◌⊎◌, List, [], ◌∷◌, map, eqb, ltb, get_or, Bool, true, Option, Some, None, MatchOption}
 use Rattle.std.specs.Option.{unwrap_or}
 use Rattle.std.specs.List.{find}
 use Rattle.std.specs.Int.Bits.{bit_and}
@@ -64,14 +64,14 @@ FurthestIfAny field set v one = MatchOption one ((k : ℕ) → Holding field set
 abbrev pub kept_covers : ℕ
 kept_covers = 16
 
--- There is a cover, and its boxes are all in the set.
-abbrev pub serves : ℕ → Option ℕ → Bool
-serves set None = false
-serves set (Some c) = eqb (bit_and c set) c
+-- Where the kept covers are looked at no further: a cover whose boxes are all in the set, or an empty place.
+abbrev pub stops : ℕ → Option ℕ → Bool
+stops set None = true
+stops set (Some c) = eqb (bit_and c set) c
 
--- The first of the kept covers whose boxes are all in the set.
+-- The first of the kept covers whose boxes are all in the set. An empty place ends them.
 abbrev pub recall : ℕ → List (Option ℕ) → Option ℕ
-recall set kept = unwrap_or (find (serves set) kept) None
+recall set kept = unwrap_or (find (stops set) kept) None
 
 -- This is no cover, or is c.
 abbrev pub ends : ℕ → Option ℕ → Bool

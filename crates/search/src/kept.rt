@@ -1,12 +1,12 @@
 // The covers that a walk keeps for a field, the one that served last first.
 ghost use Rattle.std.specs.Prelude.{◌≡◌, replicate, Some, None};
-ghost use Rattle.search.specs.Covers.{kept_covers, serves, recall, shifted};
+ghost use Rattle.search.specs.Covers.{kept_covers, stops, recall, shifted};
 
 // How many are kept.
-const COVERS: usize = 16;
+pub const COVERS: usize = 16;
 
 // Those that there are come before the empty places.
-#[derive(Drop)]
+#[derive(Clone, Copy)]
 pub struct Kept([Option<u64>; COVERS]);
 
 impl Kept {
@@ -17,14 +17,14 @@ impl Kept {
         Kept([None; COVERS])
     }
 
-    // The first kept cover whose boxes are all in the set. The covers are lent, and left unchanged.
+    // The first kept cover whose boxes are all in the set. An empty place ends them. The covers are lent, and left unchanged.
     pub fn recalled(&self, set: u64) -> Option<u64>
         ensures { result ≡ recall set self.now.0 }
     {
         *self
             .0
             .iter()
-            .find(|kept| kept.is_some_and(|c| c & set == c))?
+            .find(|kept| kept.is_none_or(|c| c & set == c))?
     }
 
     // Puts the cover before the others. If it was among them it goes from there; else the last goes, where there is no room.

@@ -2,3 +2,4 @@
 pub mod Striking
 pub mod Texts
 pub mod Lines
+pub mod Bytes

@@ -4,11 +4,8 @@ ghost use Rattle.std.specs.Iterator.{YieldsFirstRef, item_count};
 ghost use Rattle.reader.specs.Lines.{lines_of};
 ghost use Rattle.striking.specs.Lines.{keeps as keeps_test, lines_kept};
 
-use policy::limits::ROWS;
+use crate::Flags;
 use reader::lines::Lines;
-
-// For each row, whether it is dead.
-pub type Flags = [bool; ROWS];
 
 // The lines that are kept, in order and each without its line feed, of those that are left of a text: the first of these is at `place`, and the rows'
 // lines come after `others` lines.

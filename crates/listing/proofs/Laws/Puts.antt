@@ -38,11 +38,11 @@ unfolding bytes
 bytes_append [] fs = refl
 bytes_append (e ∷ es) fs = rw (bytes_append es fs) refl
 
-put_none : (l : List ℕ) (n : ℕ) → Put l n l n []
+pub put_none : (l : List ℕ) (n : ℕ) → Put l n l n []
 unfolding bytes
 put_none l n = record { stored = refl; count = omega arith }
 
-put_then : {a b c : List ℕ} {n m k : ℕ} {es fs : List Entry} → Put a n b m es → Put b m c k fs → Put a n c k (es ++ fs)
+pub put_then : {a b c : List ℕ} {n m k : ℕ} {es fs : List Entry} → Put a n b m es → Put b m c k fs → Put a n c k (es ++ fs)
 put_then {a} {b} {c} {n} {m} {k} {es} {fs} p q =
     let h = length_bytes es in
     let d = p.count in
@@ -56,16 +56,16 @@ put_then {a} {b} {c} {n} {m} {k} {es} {fs} p q =
       count = let f = length-append es fs in let g = q.count in omega arith;
     }
 
--- There is room for the first of two lists, and after it for the second.
+-- There is room for the first of two lists; the buffer stays as long, and has room for the second after the first.
 pub room_first : (size n : ℕ) (es fs : List Entry) → Room size n (es ++ fs) → Room size n es
 room_first size n es fs r = let e = length-append es fs in omega arith
 
-put_room : {a b : List ℕ} {n m : ℕ} {es : List Entry} → Put a n b m es → (fs : List Entry) → Room (length a) n (es ++ fs) → Room (length b) m fs
-put_room {a} {b} {n} {m} {es} p fs r =
-    let l = ap length p.stored ∙ length-sets a (entry_bytes * n) (bytes es) in
-    let c = p.count in
-    let e = length-append es fs in
-    omega arith
+module _ {a b : List ℕ} {n m : ℕ} {es : List Entry} (p : Put a n b m es) where
+  pub put_long : length b ≡ length a
+  put_long = ap length p.stored ∙ length-sets a (entry_bytes * n) (bytes es)
+
+  pub room_second : (fs : List Entry) → Room (length a) n (es ++ fs) → Room (length b) m fs
+  room_second fs r = let l = put_long in let c = p.count in let e = length-append es fs in omega arith
 
 -- ---- the caller's buffer
 
@@ -102,7 +102,7 @@ pub appends_then : {a b c : Writer} {es fs : List Entry} → Appends a b es → 
 appends_then p q = record { buffer = q.buffer ∙ p.buffer; put = put_then p.put q.put }
 
 pub appends_room : {a b : Writer} {es : List Entry} → Appends a b es → (fs : List Entry) → Room (length a.out.now) a.n (es ++ fs) → Room (length b.out.now) b.n fs
-appends_room p fs r = put_room p.put fs r
+appends_room p fs r = room_second p.put fs r
 
 pub appends_listed : {b : Bool} {w v : Writer} {i kind j : ℕ} → b ≡ true → Appends w v (entry i kind j ∷ []) → Appends w v (listed_if b i kind j)
 appends_listed e p = rw e p

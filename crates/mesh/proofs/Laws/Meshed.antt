@@ -64,6 +64,10 @@ ready_all m sets past n a b r f l = r f (omega arith)
 
 -- ---- cells and boxes
 
+-- The code's first cell has the first interval of each field.
+pub all_lowest : (f : ℕ) → f < field_count → at (replicate field_count 0) f ≡ 0
+all_lowest f l = get_or-replicate {A = ℕ} field_count f 0 0 l
+
 module _ (M : Mesh) (asked : AskedRow M) (sets : List (List ℕ)) (past : List ℕ) (ready : Ready M sets past field_count) where
   abbrev cs : ℕ → List ℕ
   cs f = cuts_of M f
@@ -86,7 +90,7 @@ module _ (M : Mesh) (asked : AskedRow M) (sets : List (List ℕ)) (past : List �
   -- The block of all cells.
   pub all_cells : IsBlock (replicate field_count 0) past
   all_cells f l =
-      let z = get_or-replicate {A = ℕ} field_count f 0 0 l in
+      let z = all_lowest f l in
       let n = (ready f l).counted in
       let m = cuts_first (range_in M.bounds.now M.row f) (fields_of M f) (asked_at f l).ordered in
       (omega (arith, m.0), let k = cuts_fit M f (asked_at f l) in omega arith)
@@ -191,10 +195,10 @@ module _ (M : Mesh) (asked : AskedRow M) (sets : List (List ℕ)) (past : List �
       ]
 
   -- The first free cell of all, if there is one, tells the answer.
-  module _ (r : Option (List ℕ)) (first : First sets (replicate field_count 0) past None r) where
+  module _ (lo : List ℕ) (lowest : (f : ℕ) → f < field_count → at lo f ≡ 0) (r : Option (List ℕ)) (first : First sets lo past None r) where
     -- the cell of a packet is in the block of all cells
-    inside : (q : Packet) (c : List ℕ) → ((f : ℕ) → f < field_count → Interval f (get_or q f 0) (at c f)) → Inside (replicate field_count 0) past c
-    inside q c v f l = (omega (arith, get_or-replicate {A = ℕ} field_count f 0 0 l), omega (arith, (v f l).0, (ready f l).counted))
+    inside : (q : Packet) (c : List ℕ) → ((f : ℕ) → f < field_count → Interval f (get_or q f 0) (at c f)) → Inside lo past c
+    inside q c v f l = (omega (arith, lowest f l), omega (arith, (v f l).0, (ready f l).counted))
 
     pub answer_none : r ≡ None → mesh s bs ≡ none
     answer_none e = right_unique s bs (mesh s bs) none mesh_right (λ q h. go q h (claimed bs q) (claimed_decides bs q))
@@ -206,12 +210,12 @@ module _ (M : Mesh) (asked : AskedRow M) (sets : List (List ℕ)) (past : List �
             absurd (first.first c.0 (inside q c.0 c.1) (unclaimed_free q h (d.no refl) c.0 c.1) (subst (Before c.0) (sym e) tt))
 
     -- What is found is a cell, and free.
-    found_free : (c : List ℕ) → r ≡ Some c → Inside (replicate field_count 0) past c × Free sets c
+    found_free : (c : List ℕ) → r ≡ Some c → Inside lo past c × Free sets c
     found_free c e = go first.one
       where
-        go : (r ≡ None) ⊎ Better sets (replicate field_count 0) past None r → Inside (replicate field_count 0) past c × Free sets c
+        go : (r ≡ None) ⊎ Better sets lo past None r → Inside lo past c × Free sets c
         go (inl q) = absurd cc
-        go (inr b) = let q : b.cell ≡ c = let i = b.is in cc in subst (λ (x : List ℕ). Inside (replicate field_count 0) past x × Free sets x) q (b.inside, b.free)
+        go (inr b) = let q : b.cell ≡ c = let i = b.is in cc in subst (λ (x : List ℕ). Inside lo past x × Free sets x) q (b.inside, b.free)
 
     pub cell_cuts : (c : List ℕ) → r ≡ Some c → HasCuts M c
     cell_cuts c e f l = let k = ((found_free c e).0 f l).1 in omega (arith, (ready f l).counted)

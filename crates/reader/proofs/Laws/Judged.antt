@@ -58,7 +58,7 @@ module _ {text unread : List ℕ} {r : StateStruct} (o : Onward text unread r) w
       go : (s : State) → Reads r s → finish (run s (lines_of unread)) (rest_of unread) ≡ parse text → parse text ≡ refused_by by.number by.line
       go (reading k p) h same = let x : ◌≡◌ {A = Option Refusal} None (Some by) = sym h.0 ∙ e in absurd (cc)
       go (refused k l) h same =
-          let x : ◌≡◌ {A = Option Refusal} (Some by) (Some (record { number = k; line = l })) = sym e ∙ h in
+          let x : ◌≡◌ {A = Option Refusal} (Some by) (Some (record { number = k; line = l })) = sym e ∙ h.is in
           let z : finish (run (refused k l) (lines_of unread)) (rest_of unread) ≡ refused_by k l = rw (run_refused k l (lines_of unread)) in
           sym same ∙ z ∙ said_by by cc
 
@@ -71,7 +71,7 @@ module _ {text unread : List ℕ} {r : StateStruct} (o : Onward text unread r) w
       where
         go : (s : State) → Reads r s → finish s left ≡ parse text → A
         go (reading n p) g q = f p g.2 (rw g.1 at q)
-        go (refused k l) g q = let x : ◌≡◌ {A = Option Refusal} None (Some (record { number = k; line = l })) = sym z ∙ g in absurd (cc)
+        go (refused k l) g q = let x : ◌≡◌ {A = Option Refusal} None (Some (record { number = k; line = l })) = sym z ∙ g.is in absurd (cc)
 
     pub ends_unended : (by : Refusal) → false ≡ eqb (length left) 0 → IsNext r no_line by → Ends text (Err by)
     unfolding finish

@@ -35,9 +35,12 @@ module _ (n : ℕ) (p : Progress) (f : Frame) where
   faulty m h z = rw (h, ne_eqb m 0 z)
 
 -- A line that is no frame.
-pub no_frame_lem : (p : Progress) → refusal (checks p no_frame) ≡ wrong_form
+pub no_frame_fault : (p : Progress) → refusal (checks p no_frame) ≡ wrong_form
 unfolding checks
-no_frame_lem p = refusal_broken false wrong_form [] refl
+no_frame_fault p = refusal_broken false wrong_form [] refl
+
+pub no_frame_lem : (n : ℕ) (p : Progress) → take_frame n p no_frame ≡ refused wrong_form (suc n)
+no_frame_lem n p = faulty n p no_frame wrong_form (no_frame_fault p) (λ z. omega arith)
 
 -- A line.
 module _ (n : ℕ) (p : Progress) (l : List ℕ) where

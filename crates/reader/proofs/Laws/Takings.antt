@@ -34,7 +34,7 @@ use Rattle.reader.specs.States.{State, reading, refused, checks, line_checks, gr
 use Rattle.reader.specs.Views.{Ready, Has, Reads, Goes, Refuses, Judges, Takes, TakesLine, Moves}
 use Rattle.reader.specs.declared.state.State.{State as StateStruct}
 use Rattle.reader.proofs.Laws.Lines.{rest_all}
-use Rattle.reader.proofs.Laws.States.{fit_of, fitted, frame_misfit, frame_content, frame_grown, no_frame_lem, kind_own, kind_cases}
+use Rattle.reader.proofs.Laws.States.{fit_of, fitted, frame_misfit, frame_content, frame_grown, no_frame_fault, kind_own, kind_cases}
 use Rattle.reader.proofs.Laws.States.{step_taken, step_refused}
 use Rattle.reader.proofs.Laws.Readers.{progress_of, has_own}
 use Rattle.reader.proofs.Laws.Wellformed.{one_line}
@@ -146,7 +146,7 @@ module _ (r : StateStruct) (line : List ℕ) where
     takes_no_kind n p =
         let bs = bytes_of (drop 2 line) in
         let none : frame_of_kind byte bs ≡ no_frame = elim (kind_cases byte) [ inl x ↦ absurd (n x.0 x.1) | inr none ↦ none bs ] in
-        refusal_line p ∙ ap (λ f. refusal (checks p f)) none ∙ no_frame_lem p
+        refusal_line p ∙ ap (λ f. refusal (checks p f)) none ∙ no_frame_fault p
 
 -- A refusal stays.
 pub moves_refused : (r : StateStruct) (line : List ℕ) → true ≡ is_some r.refusal → Ready r → Moves r (λ s. step s line) r
@@ -168,7 +168,7 @@ module _ (r : StateStruct) (line : List ℕ) (e : false ≡ is_some r.refusal) {
     where
       goes : (s : State) → Reads r s → Reads q (step s line)
       goes (reading n p) h = subst (λ m. Reads q (step (reading m p) line)) (sym h.1) (g.reads p h.2)
-      goes (refused number at) h = absurd (true≢false (sym (e ∙ ap is_some h)))
+      goes (refused number at) h = absurd (true≢false (sym (e ∙ ap is_some h.is)))
 
   pub moves_taken : TakesLine r line (Ok tt) q → Moves r (λ s. step s line) q
   moves_taken t =

@@ -19,6 +19,7 @@ use Rattle.relations.specs.Ranges.{Within, within, contains_range, overlaps_rang
 use Rattle.base.specs.Pairs.{Pairwise}
 use Rattle.relations.specs.Selectors.{lows, highs, none_above, Holds, holds, Contains, contains, Overlap, overlaps, Inhabited, inhabited, meet, meet_all, MeetAll, exchange, same_selector}
 use Rattle.base.proofs.Laws.Decides.{decides_true, decides_false, decides_as, decides_leb, decides_eqb, decides_and}
+use Rattle.base.proofs.Laws.Firsts.{decides_once}
 use Rattle.base.proofs.Laws.Pairs.{pairwise_decides, pairwise_both, pairwise_map}
 
 -- ---- a packet in a selector
@@ -306,3 +307,16 @@ module _ (s1 s2 : Selector) where
   overlaps_ends =
       pairwise_both overlaps_range (λ r q. leb r.low q.high) (λ q r. leb q.low r.high) (λ r q. refl) s1 s2
       ∙ rw (pairwise_map leb (λ r. r.low) (λ q. q.high) s1 s2, pairwise_map leb (λ q. q.low) (λ r. r.high) s2 s1)
+
+  -- The same selector, where each contains the other.
+  pub same_contains : same_selector s1 s2 ≡ (contains s1 s2 && contains s2 s1)
+  unfolding same_selector contains
+  same_contains = pairwise_both same_range contains_range contains_range both_ways s1 s2
+    where
+      both_ways : (r q : Range) → same_range r q ≡ (contains_range r q && contains_range q r)
+      both_ways r q =
+          decides_once (same_range r q) (contains_range r q && contains_range q r) (same_range_decides r q)
+          (decides_as
+          (λ h. let x = h.0 in let y = h.1 in (omega (arith, x.0, y.0), omega (arith, x.1, y.1)))
+          (λ h. ((omega (arith, h.0), omega (arith, h.1)), (omega (arith, h.0), omega (arith, h.1))))
+          (decides_and (contains_range r q) (contains_range q r) (contains_range_decides r q) (contains_range_decides q r)))

@@ -2,7 +2,7 @@
 -- Assumes nothing.
 use Prim.Native.Nat.{ℕ, suc, ◌+◌, ◌≤◌, ◌<◌}
 use mathlib.Core.Path.{◌≡◌, refl, sym, ap, ◌∙◌}
-use mathlib.Core.Bool.{Bool, true, false, true≢false}
+use mathlib.Core.Bool.{Bool, true, false}
 use mathlib.Core.Logic.{◌⊎◌, inl, inr}
 use mathlib.Core.List.Memᴰ
 use mathlib.Core.List.{List, [], ◌∷◌, ◌++◌, append-nil, append_assoc, Memᴰ}
@@ -17,21 +17,21 @@ use Rattle.std.specs.List.{find}
 use Rattle.std.specs.Option.{unwrap_or}
 use Rattle.std.proofs.Common.{Option, Some, None, cond}
 use Rattle.std.proofs.lemmas.Option.{none-some, same_Some}
-use Rattle.search.specs.Covers.{serves, recall, ends, shifted}
+use Rattle.search.specs.Covers.{stops, recall, ends, shifted}
 
 -- ---- the first within a set
 
 -- A cover that is recalled is within the set, and is kept.
 pub recall_known : (a : ℕ) (os : List (Option ℕ)) (c : ℕ) → recall a os ≡ Some c → (bit_and c a ≡ c) × Memᴰ (Some c) os
 recall_known a [] c e = absurd (none-some c e)
-recall_known a (o ∷ os) c e = go (serves a o) refl (recall_known a os c) e
+recall_known a (o ∷ os) c e = go (stops a o) refl (recall_known a os c) e
   where
-    here : (k : Option ℕ) → serves a k ≡ true → k ≡ Some c → bit_and c a ≡ c
-    here None w i = absurd (true≢false (sym w))
+    here : (k : Option ℕ) → stops a k ≡ true → k ≡ Some c → bit_and c a ≡ c
+    here None w i = absurd (none-some c i)
     here (Some x) w i = rw (sym (same_Some x c i)) (eqb-true _ _ w)
 
-    go : (t : Bool) → serves a o ≡ t → (recall a os ≡ Some c → (bit_and c a ≡ c) × Memᴰ (Some c) os)
-        → unwrap_or (cond t (Some o) (find (serves a) os)) None ≡ Some c → (bit_and c a ≡ c) × Memᴰ (Some c) (o ∷ os)
+    go : (t : Bool) → stops a o ≡ t → (recall a os ≡ Some c → (bit_and c a ≡ c) × Memᴰ (Some c) os)
+        → unwrap_or (cond t (Some o) (find (stops a) os)) None ≡ Some c → (bit_and c a ≡ c) × Memᴰ (Some c) (o ∷ os)
     go true w more k = (here o w k, Memᴰ.head (sym k))
     go false w more k = let m = more k in (m.0, Memᴰ.tail m.1)
 

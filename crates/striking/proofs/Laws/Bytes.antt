@@ -1,35 +1,34 @@
--- Laws of the struck text line by line. For an accepted text, whose rows are its last lines, the lines that are kept are those of the struck text,
--- which is so no longer than the text.
+-- Laws of the struck text line by line and byte by byte. For an accepted text, whose rows are its last lines, the lines that are kept are those of the
+-- struck text, and the bytes that are kept are the struck text, which is so no longer than the text.
 -- Assumes nothing.
 use Prim.Native.Nat.{ℕ, zero, suc, ◌+◌, ◌-◌, ◌≤◌, ◌<◌}
 use mathlib.Core.Path.{◌≡◌, refl, sym, ap, ◌∙◌}
 use mathlib.Core.Bool.{Bool, true, false, not, ◌||◌}
-use mathlib.Core.List.{List, [], ◌∷◌, ◌++◌, map}
+use mathlib.Core.List.{List, [], ◌∷◌, ◌++◌, map, append-nil}
 use native.Mathlib.Nat.{add-zero}
 use native.Mathlib.Omega.{arith}
-use borrow.Author.Tests.{lt-ltb, le-ltb, lt-leb}
+use borrow.Author.Tests.{ne_eqb, lt-ltb, le-ltb, lt-leb}
 use lib.Dec.{ltb}
 use lib.ListN.{length, get_or, set, take, drop, drop_of_length-le, take-append-drop, length-append}
 use Rattle.std.specs.List.{sum_by}
 use Rattle.std.proofs.lemmas.List.Recursion.{is_sum_by}
 use lib.Seq.{sets, lt-length-sets, drop-cons, length-take-le}
-use borrow.Rule.Slice.PartMut.{put_mid}
-use Rattle.base.proofs.Laws.Lists.{sets_append}
-use Rattle.policy.proofs.Laws.Runs.{part_stored}
+use Rattle.base.proofs.Laws.Lists.{sets_append, length_none}
 use Rattle.base.specs.Truths.{pick}
 use Rattle.policy.specs.Limits.{most_rows}
 use Rattle.policy.specs.Model.{Table, lines_before}
 use Rattle.reader.specs.Lines.{line_feed, lines_of, rest_of, text_of}
 use Rattle.base.specs.Answers.{returned}
 use Rattle.reader.specs.States.{table_read, parse}
-use Rattle.reader.proofs.Laws.Rows.{accepted_lines}
-use Rattle.reader.proofs.Laws.Texts.{text_cut}
+use Rattle.reader.proofs.Laws.Rows.{accepted_rows, accepted_lines}
+use Rattle.reader.proofs.Laws.Texts.{NotFeed, NoFeed, AllNoFeed, text_cut, lines_clean}
 use Rattle.reader.proofs.Laws.Wellformed.{accepted_wellformed}
 use Rattle.verdicts.specs.Verdicts.{dead}
 use Rattle.base.specs.Lists.{numbers_from}
 use Rattle.striking.specs.Striking.{kept}
 use Rattle.striking.specs.Texts.{struck_text}
 use Rattle.striking.specs.Lines.{DeadRows, keeps, lines_kept}
+use Rattle.striking.specs.Bytes.{next_place, kept_bytes}
 use Rattle.base.proofs.Laws.Numbers.{number_next, numbers_end}
 
 -- ---- how long lines are
@@ -49,18 +48,54 @@ lines_within text = let e = ap length (text_cut text) in omega (arith, length-ap
 pub lines_counted : (text : List ℕ) → length (lines_of text) ≤ length text
 lines_counted text = let e = few_lines (lines_of text) in let h = lines_within text in omega arith
 
--- A line that is copied to a part of an output: there is room for its line feed after it, and both stand there as if they were stored.
-module _ (out part line : List ℕ) (n k : ℕ) (e : part ≡ line) (f : k ≡ length line) (h : n + length line + 1 ≤ length out) where
-  copied : put_mid n k out part ≡ sets out n line
-  copied = part_stored n k out part line e f (omega arith)
+-- A line that is copied to an output: there is room for its line feed after it, and both stand there as if they were stored.
+module _ (out next line : List ℕ) (n : ℕ) (e : next ≡ sets out n line) (h : n + length line + 1 ≤ length out) where
+  pub feed_within : n + length line < length next
+  feed_within = rw e (lt-length-sets out n line (omega arith))
 
-  pub feed_within : n + length line < length (put_mid n k out part)
-  feed_within = rw copied (lt-length-sets out n line (omega arith))
-
-  pub line_stored : set (put_mid n k out part) (n + length line) line_feed ≡ sets out n (line ++ (line_feed ∷ []))
-  line_stored = ap (λ l. set l (n + length line) line_feed) copied ∙ sym (sets_append out n line (line_feed ∷ []))
+  pub line_stored : set next (n + length line) line_feed ≡ sets out n (line ++ (line_feed ∷ []))
+  line_stored = ap (λ l. set l (n + length line) line_feed) e ∙ sym (sets_append out n line (line_feed ∷ []))
 
 module _ (keep : ℕ → Bool) where
+  -- ---- bytes that are kept, and lines
+
+  -- A byte is kept, or it goes, as its line does.
+  byte : (n c : ℕ) (text : List ℕ)
+      → kept_bytes keep n (c ∷ text) ≡ pick (keep n) (c ∷ kept_bytes keep (next_place n c) text) (kept_bytes keep (next_place n c) text)
+  unfolding kept_bytes
+  byte n c text = go (keep n) refl
+    where
+      go : (b : Bool) → keep n ≡ b
+          → kept_bytes keep n (c ∷ text) ≡ pick b (c ∷ kept_bytes keep (next_place n c) text) (kept_bytes keep (next_place n c) text)
+      go true e = rw (e, kept_bytes)
+      go false e = rw (e, kept_bytes)
+
+  bytes_end : (n : ℕ) → kept_bytes keep n [] ≡ []
+  unfolding kept_bytes
+  bytes_end n = refl
+
+  same_place : (n c : ℕ) → NotFeed c → next_place n c ≡ n
+  same_place n c h = rw (ne_eqb c line_feed h) refl
+
+  whole_line : (n : ℕ) (l text : List ℕ) → NoFeed l
+      → kept_bytes keep n (l ++ (line_feed ∷ text)) ≡ pick (keep n) (l ++ (line_feed ∷ kept_bytes keep (suc n) text)) (kept_bytes keep (suc n) text)
+  whole_line n [] text h = byte n line_feed text
+  whole_line n (c ∷ l) text h =
+      byte n c (l ++ (line_feed ∷ text))
+      ∙ rw (same_place n c h.0, whole_line n l text h.1) (again (keep n) (l ++ (line_feed ∷ kept_bytes keep (suc n) text)) (kept_bytes keep (suc n) text))
+    where
+      again : (b : Bool) (x y : List ℕ) → pick b (c ∷ pick b x y) (pick b x y) ≡ pick b (c ∷ x) y
+      again true x y = refl
+      again false x y = refl
+
+  text_kept : (n : ℕ) (ls : List (List ℕ)) → AllNoFeed ls → kept_bytes keep n (text_of ls) ≡ text_of (lines_kept keep n ls)
+  text_kept n [] f = bytes_end n
+  text_kept n (l ∷ ls) f = whole_line n l (text_of ls) f.0 ∙ rw (text_kept (suc n) ls f.1) (told (keep n) (lines_kept keep (suc n) ls))
+    where
+      told : (b : Bool) (r : List (List ℕ)) → pick b (l ++ (line_feed ∷ text_of r)) (text_of r) ≡ text_of (pick b (l ∷ r) r)
+      told true r = refl
+      told false r = refl
+
   -- No more lines are kept than there are.
   kept_shorter : (n : ℕ) (ls : List (List ℕ)) → length (text_of (lines_kept keep n ls)) ≤ length (text_of ls)
   kept_shorter n [] = omega arith
@@ -134,15 +169,22 @@ module _ (text : List ℕ) (t : Table) (e : parse text ≡ returned (table_read 
             ∙ ap (λ (j : ℕ). lines_kept keep (others + 0) (drop j ls)) n
             ∙ rows_kept keep (λ i. not (dead t i)) (length t.rows) ls others late (length t.rows) 0 (omega arith) (let l = long in omega arith)
 
-  -- by the flags of the dead rows
-  pub struck_bytes : (flags : List Bool) → DeadRows t flags → text_of (lines_kept (keeps flags others) 0 ls) ≡ struck_text text t
-  struck_bytes flags d = struck_kept (keeps flags others) (λ n h. rw (lt-ltb n others h)) flagged
+  -- by the flags of the dead rows: line by line, as the code goes through the text,
+  pub struck_of_lines : (flags : List Bool) → DeadRows t flags → text_of (lines_kept (keeps flags others) 0 ls) ≡ struck_text text t
+  struck_of_lines flags d = struck_kept (keeps flags others) (λ n h. rw (lt-ltb n others h)) flagged
     where
       flagged : (i : ℕ) → i < length t.rows → keeps flags others (others + i) ≡ not (dead t i)
       flagged i h =
           let w = (accepted_wellformed text t e).counts.few_rows in
           let s : others + i - others ≡ i = omega arith in
           rw (le-ltb (others + i) others (omega arith), s, lt-leb most_rows i (omega arith), d.at i h)
+
+  -- and byte by byte
+  pub struck_bytes : (flags : List Bool) → DeadRows t flags → kept_bytes (keeps flags others) 0 text ≡ struck_text text t
+  struck_bytes flags d =
+      let r : rest_of text ≡ [] = length_none (rest_of text) (accepted_rows text t e).ended in
+      let cut = sym (text_cut text) ∙ ap (λ (q : List ℕ). text_of ls ++ q) r ∙ append-nil (text_of ls) in
+      ap (kept_bytes (keeps flags others) 0) cut ∙ text_kept (keeps flags others) 0 ls (lines_clean text) ∙ struck_of_lines flags d
 
   -- by the test itself, which needs no flags
   abbrev spares : ℕ → Bool

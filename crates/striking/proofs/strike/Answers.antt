@@ -14,7 +14,7 @@ use Rattle.striking.specs.Texts.{struck_text}
 use Rattle.striking.specs.Lines.{keeps, lines_kept}
 use Rattle.striking.specs.declared.kept.KeptLines.{KeptLines}
 use Rattle.verdicts.proofs.Laws.Lent.{counted_lent}
-use Rattle.striking.proofs.Laws.Bytes.{text_long, feed_within, line_stored, struck_bytes, struck_shorter}
+use Rattle.striking.proofs.Laws.Bytes.{text_long, feed_within, line_stored, struck_of_lines, struck_shorter}
 use Rattle.striking.proofs.strike.Goals as goal
 use Rattle.striking.proofs.strike.Goals.{After-map, After-sum-n, In-Some}
 
@@ -36,7 +36,7 @@ module _ (c : After-map) where
   struck : text_of (lines_kept (keeps c.dead_rows-dead.result c.lines_before-others.result) 0 (lines_of c.args.text.now)) ≡ whole
   struck =
       ap (λ (n : ℕ). text_of (lines_kept (keeps c.dead_rows-dead.result n) 0 (lines_of c.args.text.now))) before
-      ∙ struck_bytes c.args.text.now (table_of c.args.t.now) c.requires.1 c.dead_rows-dead.result c.dead_rows-dead.ensures
+      ∙ struck_of_lines c.args.text.now (table_of c.args.t.now) c.requires.1 c.dead_rows-dead.result c.dead_rows-dead.ensures
 
 -- how long the lines are, with their line feeds
 abbrev bytes : List ℕ → ℕ
@@ -102,14 +102,14 @@ module _ (c : In-Some) where
 pub overflow_add-end : goal.overflow_add-end
 overflow_add-end c = let r = room (goal.at.overflow_add-end c).In-Some in omega arith
 
-pub slice_bounds-copy_from_slice-end : goal.slice_bounds-copy_from_slice-end
-slice_bounds-copy_from_slice-end c = let r = room (goal.at.slice_bounds-copy_from_slice-end c).In-Some in omega arith
+pub copy-requires : goal.copy-requires
+copy-requires c = let r = room (goal.at.copy-requires c).In-Some in omega arith
 
 pub bounds-out-end : goal.bounds-out-end
 bounds-out-end c =
     let s = (goal.at.bounds-out-end c).In-Some in
     let r = room s in
-    feed_within c.loop-line.out c.copy_from_slice.new.self (line s) c.loop-line.start _ c.copy_from_slice.ensures.after (omega arith) r
+    feed_within c.loop-line.out c.copy.new.out (line s) c.loop-line.start c.copy.ensures r
 
 pub overflow_add-start : goal.overflow_add-start
 overflow_add-start c = let r = room (goal.at.overflow_add-start c).In-Some in omega arith
@@ -119,7 +119,7 @@ loop-line-preserved c =
     let s = (goal.at.loop-line-preserved c).In-Some in
     let r = room s in
     copying_more (line s ++ (line_feed ∷ [])) (next s)
-    (line_stored c.loop-line.out c.copy_from_slice.new.self (line s) c.loop-line.start _ c.copy_from_slice.ensures.after (omega arith) r)
+    (line_stored c.loop-line.out c.copy.new.out (line s) c.loop-line.start c.copy.ensures r)
     (omega (arith, length-append (line s) (line_feed ∷ [])))
 
 pub returns : goal.returns

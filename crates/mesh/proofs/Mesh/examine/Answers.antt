@@ -2,7 +2,7 @@
 use Rattle.std.proofs.Common.{sym, ap, ◌∙◌, arith, length-set}
 use Rattle.covers.specs.Least.{found}
 use Rattle.mesh.proofs.Laws.Filled.{cuts_fit}
-use Rattle.mesh.proofs.Laws.Meshed.{asked_field, ready_next, ready_all, all_cells, answer_none, answer_found}
+use Rattle.mesh.proofs.Laws.Meshed.{asked_field, ready_next, ready_all, all_lowest, all_cells, answer_none, answer_found}
 use Rattle.mesh.proofs.Mesh.examine.Goals as goal
 
 pub overflow_cast-hi : goal.overflow_cast-hi
@@ -29,7 +29,7 @@ returns-in_err-c c =
     rw c.from_residual.ensures
     (sym
     (answer_none c.args.self.now c.requires l.sets l.hi (ready_all _ _ _ l.f l.auto.f-end c.loop-f-test.false l.invariant.ready)
-    c.least.result c.least.ensures c.in_err-c.was))
+    _ all_lowest c.least.result c.least.ensures c.in_err-c.was))
 
 pub returns : goal.returns
 returns c =
@@ -37,4 +37,4 @@ returns c =
     ap found c.packet.ensures
     ∙ sym
     (answer_found c.args.self.now c.requires l.sets l.hi (ready_all _ _ _ l.f l.auto.f-end c.loop-f-test.false l.invariant.ready)
-    c.least.result c.least.ensures c.in_ok-c.c c.in_ok-c.was)
+    _ all_lowest c.least.result c.least.ensures c.in_ok-c.c c.in_ok-c.was)
