@@ -80,11 +80,14 @@ pub fn selector(part: &[u8], at: usize, address: usize) -> Selector
 }
 
 // Writes some bytes into others from place at on. The rest of those is unchanged.
+// As it is: byte by byte, since std's `copy_from_slice` is `memmove` where both are the caller's, and an archive for C would want that from outside.
 pub fn put_bytes(from: &[u8], bytes: &mut [u8], at: usize)
     requires { at + length from.now ≤ length bytes.old }
     ensures { bytes.new ≡ sets bytes.old at from.now }
 {
-    bytes[at..at + from.len()].copy_from_slice(from);
+    for (k, b) in from.iter().enumerate() {
+        bytes[at + k] = *b;
+    }
 }
 
 // Writes the low and the high of a field of `width` bytes into bytes from place at on. The rest of bytes is unchanged.

@@ -39,7 +39,7 @@ pub record Has (r : StateStruct) (p : Progress) : Type 0 where
   pub filters : r.filters ≡ length p.table.filters
   pub rows : r.rows ≡ length p.table.rows
 
--- The struct is refused by this number, which is some, at this line.
+-- The struct is refused by this number, which is not 0, at this line.
 pub record IsRefused (r : StateStruct) (number line : ℕ) : Type 0 where
   pub is : r.refusal ≡ Some (record { number = number; line = line })
   pub some : number ≡ 0 → ⊥

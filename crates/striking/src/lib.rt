@@ -3,8 +3,7 @@
 
 mod kept;
 
-ghost use Rattle.std.specs.Prelude.{◌≡◌, ◌+◌, ◌≤◌, length};
-ghost use Rattle.std.proofs.lemmas.List.Edits.{sets};
+ghost use Rattle.std.specs.Prelude.{◌≡◌};
 ghost use Rattle.policy.specs.Views.{table_of, Held};
 ghost use Rattle.policy.specs.Wellformed.{Wellformed};
 ghost use Rattle.base.specs.Answers.{returned};
@@ -15,6 +14,7 @@ ghost use Rattle.striking.specs.Lines.{DeadRows};
 
 use crate::kept::KeptLines;
 use base::{Short, Written};
+use frames::parts;
 use policy::limits::ROWS;
 use policy::table;
 use policy::table::Table;
@@ -34,17 +34,6 @@ fn dead_rows(t: &Table) -> Flags
     dead
 }
 
-// Copies the line into out from place `start` on. The rest of out is unchanged.
-// As it is: byte by byte, since std's `copy_from_slice` makes an archive for C want `memmove` from outside.
-fn copy(line: &[u8], out: &mut [u8], start: usize)
-    requires { start + length line.now ≤ length out.old }
-    ensures { out.new ≡ sets out.old start line.now }
-{
-    for (k, c) in line.iter().enumerate() {
-        out[start + k] = *c;
-    }
-}
-
 // Writes the text, whose table is t, without its dead rows' lines to the start of out, if there is room for it. The rest of out is unchanged.
 pub fn strike(text: &[u8], t: &Table, out: &mut [u8]) -> Written
     requires { Held t.now × (parse text.now ≡ returned (table_read (table_of t.now))) }
@@ -61,7 +50,7 @@ pub fn strike(text: &[u8], t: &Table, out: &mut [u8]) -> Written
     let mut start = 0;
     for line in KeptLines::of(text, &dead, others) {
         let end = start + line.len();
-        copy(line, out, start);
+        parts::put_bytes(line, out, start);
         out[end] = b'\n';
         start = end + 1;
     }

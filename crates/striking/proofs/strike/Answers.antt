@@ -102,14 +102,14 @@ module _ (c : In-Some) where
 pub overflow_add-end : goal.overflow_add-end
 overflow_add-end c = let r = room (goal.at.overflow_add-end c).In-Some in omega arith
 
-pub copy-requires : goal.copy-requires
-copy-requires c = let r = room (goal.at.copy-requires c).In-Some in omega arith
+pub put_bytes-requires : goal.put_bytes-requires
+put_bytes-requires c = let r = room (goal.at.put_bytes-requires c).In-Some in omega arith
 
 pub bounds-out-end : goal.bounds-out-end
 bounds-out-end c =
     let s = (goal.at.bounds-out-end c).In-Some in
     let r = room s in
-    feed_within c.loop-line.out c.copy.new.out (line s) c.loop-line.start c.copy.ensures r
+    feed_within c.loop-line.out c.put_bytes.new.bytes (line s) c.loop-line.start c.put_bytes.ensures r
 
 pub overflow_add-start : goal.overflow_add-start
 overflow_add-start c = let r = room (goal.at.overflow_add-start c).In-Some in omega arith
@@ -119,7 +119,7 @@ loop-line-preserved c =
     let s = (goal.at.loop-line-preserved c).In-Some in
     let r = room s in
     copying_more (line s ++ (line_feed ∷ [])) (next s)
-    (line_stored c.loop-line.out c.copy.new.out (line s) c.loop-line.start c.copy.ensures r)
+    (line_stored c.loop-line.out c.put_bytes.new.bytes (line s) c.loop-line.start c.put_bytes.ensures r)
     (omega (arith, length-append (line s) (line_feed ∷ [])))
 
 pub returns : goal.returns
